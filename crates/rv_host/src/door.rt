@@ -1,7 +1,7 @@
 //! The listener, and when to ask it for connections.
-use crate::origins::number_of;
 use mio::net::{TcpListener, TcpStream};
 use mio::{Interest, Poll, Token};
+use rv_traffic::number_of;
 use std::io;
 use std::io::ErrorKind;
 

@@ -10,12 +10,9 @@
 mod account_file;
 mod door;
 mod fault;
-mod frames;
 mod host;
 mod look_over;
 mod memory_watch;
-mod origins;
-mod overdue;
 mod place;
 mod reception;
 mod report;

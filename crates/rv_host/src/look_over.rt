@@ -1,11 +1,12 @@
 //! The look over all connections, which closes those that are idle or stall.
+ghost use Rattle.std.specs.Prelude.{◌≡◌};
+ghost use Rattle.rv_log.specs.declared.kind.FaultKind.TheVariants as fault;
 ghost use Rattle.rv_traffic.specs.CallRuns.{OnlyCalls};
+ghost use Rattle.rv_traffic.specs.declared.times.OverdueKind.TheVariants as over;
 
-use crate::frames::FrameLooks;
-use crate::overdue::{TimeLimits, overdue};
 use crate::report::{FaultKind, HostReport};
 use rv_server_connections::subscribers::ConnectionNumber;
-use rv_traffic::Switchboard;
+use rv_traffic::{FrameLooks, OverdueKind, Switchboard, TimeLimits, overdue};
 use std::alloc::{AllocError, Global};
 
 // How many milliseconds pass between two looks.
@@ -32,6 +33,17 @@ fn unread_at<S: Drop>(
         return last_full;
     }
     now
+}
+
+// The fault as which it is reported that a connection's time is over.
+fn fault_of(kind: OverdueKind) -> FaultKind
+    ensures stall { kind ≡ over.Stall → result ≡ fault.Stall }
+    ensures idle { kind ≡ over.Idle → result ≡ fault.Idle }
+{
+    match kind {
+        OverdueKind::Stall => FaultKind::Stall,
+        OverdueKind::Idle => FaultKind::Idle,
+    }
 }
 
 impl LookOver {
@@ -89,7 +101,7 @@ impl LookOver {
         let Some(kind) = self.overdue(traffic, number, last_full, now) else {
             return;
         };
-        report.note(kind);
+        report.note(fault_of(kind));
         traffic.give_up(now, number);
     }
 
@@ -100,7 +112,7 @@ impl LookOver {
         number: ConnectionNumber,
         last_full: u64,
         now: u64,
-    ) -> Option<FaultKind> {
+    ) -> Option<OverdueKind> {
         let heard = traffic.links().heard(number)?;
         let moved = traffic.links().moved(number)?;
         let sent = traffic.links().sent(number)?;

@@ -3,7 +3,6 @@ ghost use Rattle.rv_traffic.specs.CallRuns.{OnlyCalls};
 
 use crate::door::{Accepted, Door};
 use crate::fault::HostEnd;
-use crate::origins::Origins;
 use crate::report::FaultKind;
 use crate::shell::HostTraffic;
 use crate::status::StatusDesk;
@@ -13,6 +12,7 @@ use mio::event::Event;
 use mio::net::TcpStream;
 use mio::{Events, Interest, Poll, Token};
 use rv_server_connections::subscribers::ConnectionNumber;
+use rv_traffic::Origins;
 use std::io;
 use std::os::fd::AsRawFd;
 use std::time::Duration;

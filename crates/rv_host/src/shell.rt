@@ -6,7 +6,6 @@ use crate::account_file::AccountFile;
 use crate::fault::HostEnd;
 use crate::look_over::LookOver;
 use crate::memory_watch::MemoryWatch;
-use crate::overdue::TimeLimits;
 use crate::reception::{Doors, Reception};
 use crate::report::{FaultKind, HostReport};
 use crate::tally::HostTally;
@@ -15,7 +14,7 @@ use mio::net::TcpStream;
 use rv_engine::Engine;
 use rv_status::{AnswerTally, CountedStream};
 use rv_traffic::links::Links;
-use rv_traffic::{Switchboard, WaitingLists};
+use rv_traffic::{Switchboard, TimeLimits, WaitingLists};
 use rv_words::options::HostOptions;
 use std::io::Write;
 

@@ -4,4 +4,6 @@ pub mod Calls
 pub mod Waiting
 pub mod Rounds
 pub mod CallRuns
+pub mod Origins
+pub mod Times
 pub mod links

@@ -1,16 +1,26 @@
 //! When a connection's time is over.
 ghost use Rattle.std.specs.Prelude.{◌≡◌, ◌↔◌, IsTrue, Some};
-ghost use Rattle.rv_log.specs.declared.kind.FaultKind.TheVariants as kind;
-ghost use Rattle.rv_host.specs.Times.{IsMidFrame, IsSeenSince, IsSilent, IsStalled};
+ghost use Rattle.rv_traffic.specs.Times.{IsMidFrame, IsSeenSince, IsSilent, IsStalled};
+ghost use Rattle.rv_traffic.specs.declared.times.OverdueKind.TheVariants as kind;
 
-use crate::report::FaultKind;
 use rv_server_connections::connection::Wire;
 
-/// How many milliseconds a connection may stall, and how many it may be idle.
+/// The milliseconds after which a connection's time is over.
 #[derive(Clone, Copy)]
-pub(crate) struct TimeLimits {
-    pub(crate) stall: u64,
-    pub(crate) idle: u64,
+pub struct TimeLimits {
+    /// Of a stall: its peer takes none of the bytes that may leave, or stays in the middle of one frame.
+    pub stall: u64,
+    /// Of silence, while nothing is owed to it.
+    pub idle: u64,
+}
+
+/// Why a connection's time is over.
+#[derive(Clone, Copy)]
+pub enum OverdueKind {
+    /// It stopped in the middle of a frame, or took no answer.
+    Stall,
+    /// It said nothing for too long.
+    Idle,
 }
 
 // Whether all that was asked is answered, the answers are taken, and a frame has begun.
@@ -34,25 +44,25 @@ pub(crate) fn seen_since(wire: &Wire, before: Option<u64>, sent: u64, now: u64) 
     }
 }
 
-/// Why a connection is to be closed at a moment, if it is: given the moments at which its bytes last came,
-/// and at which bytes last left or none were there to leave, and the look since which it has been seen in
-/// the middle of one frame.
+/// Why a connection is to be closed at the moment `now`, if it is: given the moments at which its bytes last
+/// came (`heard`), and at which bytes last left or none were there to leave (`moved`), and the look since
+/// which it has been seen in the middle of one frame. All are in milliseconds by one clock.
 ///
-/// If it couldn't be read for a while, an answer left when it could be again, so it has all its time from
-/// then on.
-pub(crate) fn overdue(
+/// None to which an answer is owed is to be closed, unless it takes none of the bytes that may leave. If it
+/// couldn't be read for a while, an answer left when it could be again, so it has all its time from then on.
+pub fn overdue(
     wire: &Wire,
     heard: u64,
     moved: u64,
     since: Option<u64>,
     now: u64,
     limits: TimeLimits,
-) -> Option<FaultKind>
+) -> Option<OverdueKind>
     ensures stall { (result ≡ Some kind.Stall) ↔ IsStalled wire.now heard moved since now limits.stall }
     ensures idle { (result ≡ Some kind.Idle) ↔ IsSilent wire.now heard moved since now limits }
 {
     if !wire.ready().is_empty() {
-        return (now.saturating_sub(moved) >= limits.stall).then_some(FaultKind::Stall);
+        return (now.saturating_sub(moved) >= limits.stall).then_some(OverdueKind::Stall);
     }
     if wire.owes() || wire.held() > 0 {
         return None;
@@ -63,7 +73,7 @@ pub(crate) fn overdue(
         None => 0,
     };
     if wire.unread_count() > 0 && still.max(seen) >= limits.stall {
-        return Some(FaultKind::Stall);
+        return Some(OverdueKind::Stall);
     }
-    (still >= limits.idle).then_some(FaultKind::Idle)
+    (still >= limits.idle).then_some(OverdueKind::Idle)
 }

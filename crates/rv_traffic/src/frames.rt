@@ -1,22 +1,22 @@
 //! The look since which each connection has been seen in the middle of one frame.
 ghost use Rattle.std.specs.Prelude.{◌≡◌, get_or, replicate, slice_set, IfOk, None};
-ghost use Rattle.rv_host.specs.Times.{IsSeenSince};
+ghost use Rattle.rv_traffic.specs.Times.{IsSeenSince};
 
-use crate::overdue::seen_since;
+use crate::times::seen_since;
 use rv_server_connections::connection::Wire;
 use rv_server_connections::subscribers::ConnectionNumber;
 use std::alloc::{AllocError, Global};
 
-/// For each connection, by its number, the look since which it has been in the middle of one frame, if it
-/// is in one.
+/// For each connection, by its number, the moment in milliseconds of the look since which it has been in the
+/// middle of one frame, if it is in one.
 #[derive(Drop)]
-pub(crate) struct FrameLooks {
+pub struct FrameLooks {
     since: Vec<Option<u64>>,
 }
 
 impl FrameLooks {
     /// No connection is in a frame, and there is room for all numbers below `most`.
-    pub(crate) fn new(alloc: Global, most: usize) -> Result<FrameLooks, AllocError>
+    pub fn new(alloc: Global, most: usize) -> Result<FrameLooks, AllocError>
         ensures none { IfOk result (λ looks. looks.since.items ≡ replicate most None) }
     {
         Ok(FrameLooks {
@@ -24,9 +24,10 @@ impl FrameLooks {
         })
     }
 
-    /// Looks at a connection at a moment, and returns the look since which it has been seen in the middle of
-    /// one frame.
-    pub(crate) fn look(
+    /// Looks at a connection at the moment `now`, in milliseconds, and returns the look since which it has
+    /// been seen in the middle of one frame, if it is in one. Bytes of it last left at `sent`. Each look at
+    /// one for whose number there is no room is the first.
+    pub fn look(
         &mut self,
         number: ConnectionNumber,
         wire: &Wire,
@@ -47,8 +48,8 @@ impl FrameLooks {
         since
     }
 
-    /// A connection isn't looked at, so its time starts anew.
-    pub(crate) fn forget(&mut self, number: ConnectionNumber)
+    /// A connection isn't looked at this time: its next look will be the first.
+    pub fn forget(&mut self, number: ConnectionNumber)
         ensures { self.new.since.items ≡ slice_set self.old.since.items number None }
     {
         if number < self.since.len() {

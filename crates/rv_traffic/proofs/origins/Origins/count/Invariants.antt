@@ -1,7 +1,7 @@
 use Rattle.std.proofs.Common.{◌≡◌, take}
 use Rattle.std.specs.List.{count_by, zip}
-use Rattle.rv_host.specs.Origins.{is_from}
-use Rattle.rv_host.proofs.origins.Origins.count.Given as goal
+use Rattle.rv_traffic.specs.Origins.{is_from}
+use Rattle.rv_traffic.proofs.origins.Origins.count.Given as goal
 
 abbrev pub invariant-loop-number : goal.invariant-loop-number
 invariant-loop-number g l =

@@ -8,9 +8,9 @@ use Rattle.std.proofs.lemmas.Slice.Zip.{get_or-zip, length-zip}
 use Rattle.std.specs.List.{count_by, zip}
 use Rattle.rv_traffic.specs.links.Table.{link_at}
 use Rattle.rv_traffic.specs.declared.links.link.Socket.{Socket}
-use Rattle.rv_host.specs.Origins.{count_from, is_from}
-use Rattle.rv_host.proofs.origins.Origins.count.Goals as goal
-use Rattle.rv_host.proofs.origins.Origins.count.Goals.{else-is_from, then-is_from}
+use Rattle.rv_traffic.specs.Origins.{count_from, is_from}
+use Rattle.rv_traffic.proofs.origins.Origins.count.Goals as goal
+use Rattle.rv_traffic.proofs.origins.Origins.count.Goals.{else-is_from, then-is_from}
 
 module _ {S : Type 0} (address : ℕ) (from : List (Option ℕ)) (table : List (Option (Socket S))) where
   abbrev is_one : Option ℕ × Option (Socket S) → Bool

@@ -2,7 +2,7 @@
 use Rattle.std.specs.Prelude.{ℕ, ◌≡◌, ◌<◌, ◌≤◌, ◌-◌, ◌⊎◌, None, Option, Some, false, if◌then◌else◌, length}
 use Rattle.std.specs.Prelude.{ltb, max}
 use Rattle.rv_server_connections.specs.connection.Traffic.{Traffic, held_count}
-use Rattle.rv_host.specs.declared.overdue.TimeLimits.{TimeLimits}
+use Rattle.rv_traffic.specs.declared.times.TimeLimits.{TimeLimits}
 
 -- all that its peer asked was answered, and the peer has taken the answers
 abbrev pub IsServed : Traffic → Type 0
