@@ -15,4 +15,4 @@ pub mod testing;
 pub use beginning::{BeginFault, begin_journal};
 pub use folder::{FileName, Folder};
 pub use present::present_epoch;
-pub use system::{SystemFolder, SystemFolderFault};
+pub use system::{SystemFolder, SystemFolderFault, present_account};

@@ -1,14 +1,21 @@
 //! A folder of the system, which one server at a time has.
-ghost use Rattle.std.specs.Prelude.{◌≡◌, IfOk, IsErrOf, false, option_map, true};
-ghost use Rattle.rv_folder.specs.System.{has_folder_fault, system_directory};
+ghost use Rattle.std.specs.Prelude.{◌≡◌, IfOk, IfSome, IsErrOf, false, option_map, string_bytes, true};
+ghost use Rattle.rv_folder.specs.System.{IsAccountPath, IsGreatestOf, IsGreatestPath, name_text};
+ghost use Rattle.rv_folder.specs.System.{folder_path, has_folder_fault, most_in, path_in};
+ghost use Rattle.rv_folder.specs.System.{system_directory};
+ghost use Rattle.rv_folder.specs.declared.folder.FileName.TheVariants.{Account};
 ghost use Rattle.rv_journal.specs.declared.device.DeviceFault.TheVariants.{Failed};
 
 use crate::folder::{FileName, Folder};
 use rv_journal::{DeviceFault, SystemFile};
 use std::alloc::{AllocError, Global};
-use std::fs::{self, File, OpenOptions, TryLockError};
+use std::fs::{self, DirBuilder, File, OpenOptions, TryLockError};
 use std::io;
 use std::io::ErrorKind;
+use std::os::unix::fs::DirBuilderExt;
+
+// Who may use a folder that is made: its owner alone.
+const FOLDER_MODE: u32 = 0o700;
 
 /// Why a folder of the system wasn't opened. Nothing in it changed, but that its lock's file was made.
 #[derive(Drop)]
@@ -40,27 +47,40 @@ impl From<AllocError> for SystemFolderFault {
 pub struct SystemFolder<'a> {
     rt: &'a HostRuntime,
     path: String,
+    most: u64,
     lock: File,
     fault: Option<io::Error>,
 }
 
 impl<'a> SystemFolder<'a> {
-    /// Opens a folder, which is made if its parent is there, and locks it.
-    pub fn open(rt: &'a HostRuntime, path: &str) -> Result<SystemFolder<'a>, SystemFolderFault>
-        ensures { IfOk result (λ folder. has_folder_fault folder ≡ false) }
+    /// Opens a folder, and locks it. Where its parent is there and it isn't, it is made, for the owner of the
+    /// process alone. No file of it becomes longer than `most` bytes.
+    pub fn open(
+        rt: &'a HostRuntime,
+        path: &str,
+        most: u64,
+    ) -> Result<SystemFolder<'a>, SystemFolderFault>
+        ensures works { IfOk result (λ folder. has_folder_fault folder ≡ false) }
+        ensures path { IfOk result (λ folder. folder_path folder ≡ path.now) }
+        ensures most { IfOk result (λ folder. most_in folder ≡ most) }
     {
-        match fs::create_dir(rt, path) {
-            Ok(()) => {}
-            Err(why) if why.kind() == ErrorKind::AlreadyExists => {}
-            Err(why) => return Err(SystemFolderFault::Io(why)),
-        }
+        make_folder(rt, path)?;
         let lock = locked(rt, path)?;
         Ok(SystemFolder {
             rt,
             path: String::from_str(rt.alloc(), path)?,
+            most,
             lock,
             fault: None,
         })
+    }
+
+    /// The path of the file that holds the account of an epoch, if it is there. Fails only if memory was
+    /// refused.
+    pub fn account_path(&self, alloc: Global, epoch: u64) -> Result<String, AllocError>
+        ensures { IfOk result (λ path. string_bytes path ≡ path_in (folder_path self.now) (Account epoch)) }
+    {
+        path_of(alloc, &self.path, FileName::Account(epoch))
     }
 
     /// Why its first call failed that did.
@@ -87,6 +107,24 @@ impl<'a> SystemFolder<'a> {
     }
 }
 
+/// The path of the present account's file in a folder: that of the greatest epoch whose account has one, if
+/// there is one. The folder is listed, and nothing more: no lock is taken, so a server may have it, and
+/// nothing is made. Fails if the system refuses to list it, or memory was refused.
+pub fn present_account(rt: &HostRuntime, path: &str) -> io::Result<Option<String>>
+    ensures { IfOk result (λ found. IfSome found (λ text. IsAccountPath path.now (string_bytes text))) }
+{
+    let epochs = listed(rt, rt.alloc(), path)?;
+    Ok(greatest_path(rt.alloc(), path, &epochs)?)
+}
+
+// Makes a folder, if it isn't there.
+fn make_folder(rt: &HostRuntime, path: &str) -> io::Result<()> {
+    match DirBuilder::new().mode(FOLDER_MODE).create(rt, path) {
+        Err(why) if why.kind() == ErrorKind::AlreadyExists => Ok(()),
+        made => made,
+    }
+}
+
 // The lock of a folder: whoever holds it has the folder.
 fn locked(rt: &HostRuntime, folder: &str) -> Result<File, SystemFolderFault> {
     let path = format!(in rt.alloc(); "{folder}/lock")?;
@@ -102,7 +140,9 @@ fn locked(rt: &HostRuntime, folder: &str) -> Result<File, SystemFolderFault> {
 }
 
 // Where a file of a folder lies.
-fn path_of(alloc: Global, folder: &str, name: FileName) -> Result<String, AllocError> {
+fn path_of(alloc: Global, folder: &str, name: FileName) -> Result<String, AllocError>
+    ensures { IfOk result (λ path. string_bytes path ≡ path_in folder.now name) }
+{
     match name {
         FileName::Account(epoch) => format!(in alloc; "{folder}/epoch-{epoch}.account"),
         FileName::Unready => format!(in alloc; "{folder}/unready.account"),
@@ -110,7 +150,9 @@ fn path_of(alloc: Global, folder: &str, name: FileName) -> Result<String, AllocE
 }
 
 // The epoch whose account a file of this name holds, if its name is one that a store gives.
-fn epoch_of(alloc: Global, name: &str) -> Result<Option<u64>, AllocError> {
+fn epoch_of(alloc: Global, name: &str) -> Result<Option<u64>, AllocError>
+    ensures { IfOk result (λ found. IfSome found (λ epoch. name_text (Account epoch) ≡ name.now)) }
+{
     let digits = name
         .strip_prefix("epoch-")
         .and_then(|rest| rest.strip_suffix(".account"));
@@ -118,7 +160,11 @@ fn epoch_of(alloc: Global, name: &str) -> Result<Option<u64>, AllocError> {
         return Ok(None);
     };
     let given = format!(in alloc; "epoch-{epoch}.account")?;
-    Ok((given.as_str() == name).then_some(epoch))
+    if given.as_str() == name {
+        Ok(Some(epoch))
+    } else {
+        Ok(None)
+    }
 }
 
 // The epochs whose accounts have a file.
@@ -132,14 +178,34 @@ fn listed(rt: &HostRuntime, alloc: Global, path: &str) -> io::Result<Vec<u64>> {
     Ok(epochs)
 }
 
-// The file of this path, which is made where there is none.
-fn opened(rt: &HostRuntime, path: &str) -> io::Result<SystemFile> {
+// The greatest of these epochs.
+fn greatest(epochs: &[u64]) -> Option<u64>
+    ensures { IsGreatestOf epochs.now result }
+{
+    epochs.iter().copied().max()
+}
+
+// Where the account of the greatest of these epochs lies.
+fn greatest_path(alloc: Global, folder: &str, epochs: &[u64]) -> Result<Option<String>, AllocError>
+    ensures { IfOk result (λ found. IsGreatestPath folder.now epochs.now (option_map string_bytes found)) }
+{
+    match greatest(epochs) {
+        None => Ok(None),
+        Some(epoch) => {
+            let path = path_of(alloc, folder, FileName::Account(epoch))?;
+            Ok(Some(path))
+        }
+    }
+}
+
+// The file of this path, which is made where there is none, and may become `most` bytes long.
+fn opened(rt: &HostRuntime, path: &str, most: u64) -> io::Result<SystemFile> {
     let file = OpenOptions::new()
         .read(true)
         .write(true)
         .create(true)
         .open(rt, path)?;
-    Ok(SystemFile::new(file))
+    Ok(SystemFile::new(file, most))
 }
 
 impl<'a> Folder for SystemFolder<'a> {
@@ -154,7 +220,7 @@ impl<'a> Folder for SystemFolder<'a> {
 
     fn open_file(&mut self, name: FileName) -> Result<SystemFile, DeviceFault> {
         let path = path_of(self.rt.alloc(), &self.path, name)?;
-        let file = opened(self.rt, &path);
+        let file = opened(self.rt, &path, self.most);
         self.kept(file)
     }
 

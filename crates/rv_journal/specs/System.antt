@@ -1,11 +1,15 @@
 -- A file of the system as contracts see it.
-use Rattle.std.specs.Prelude.{⊤, [], false, Bool, is_some}
+use Rattle.std.specs.Prelude.{ℕ, ⊤, [], false, Bool, is_some}
 use Rattle.rv_journal.specs.Device.{Disk}
 use Rattle.rv_journal.specs.declared.system.SystemFile.{SystemFile}
 
 -- a call of it failed
 abbrev pub has_fault : SystemFile → Bool
 has_fault file = is_some file.fault
+
+-- how long it may become
+abbrev pub most_bytes : SystemFile → ℕ
+most_bytes file = file.most
 
 -- it tells nothing, and a crash may leave anything
 abbrev pub system_disk : Disk SystemFile

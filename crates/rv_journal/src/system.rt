@@ -1,6 +1,8 @@
 //! A file of the system as a device, which tells nothing of what it holds.
-ghost use Rattle.std.specs.Prelude.{◌≡◌, false, option_map, true};
-ghost use Rattle.rv_journal.specs.System.{has_fault, system_disk};
+ghost use Rattle.std.specs.Prelude.{◌≡◌, ◌↔◌, ◌+◌, ◌<◌, ◌≤◌, Err, IsTrue, OnOk, false, length, option_map};
+ghost use Rattle.std.specs.Prelude.{true};
+ghost use Rattle.rv_journal.specs.Device.{HasCause, Holds, WhereTold, WritesFile};
+ghost use Rattle.rv_journal.specs.System.{has_fault, most_bytes, system_disk};
 ghost use Rattle.rv_journal.specs.declared.device.DeviceFault.TheVariants.{Failed};
 
 use crate::device::{Device, DeviceFault};
@@ -12,23 +14,33 @@ use std::os::unix::fs::FileExt;
 // A file ends below this offset.
 const MOST: usize = 1 << 63;
 
+// The system's number for a file that would be too long, EFBIG.
+const TOO_LONG: i32 = 27;
+
 /// A file of the system, opened to be read and written, and not to be appended to: there each write would go
-/// to its end.
+/// to its end. No write makes it longer than so many bytes: where the process has a limit of its files'
+/// length, the system ends it at a write past that.
 ///
 /// Contracts see whether it failed, and nothing of its bytes: that the system does as [`Device`] says is
 /// taken on trust, as of a socket.
 #[derive(Drop)]
 pub struct SystemFile {
     file: File,
+    most: u64,
     fault: Option<io::Error>,
 }
 
 impl SystemFile {
-    /// A device over this file.
-    pub fn new(file: File) -> SystemFile
-        ensures { has_fault result ≡ false }
+    /// A device over this file, which may become `most` bytes long.
+    pub fn new(file: File, most: u64) -> SystemFile
+        ensures works { has_fault result ≡ false }
+        ensures most { most_bytes result ≡ most }
     {
-        SystemFile { file, fault: None }
+        SystemFile {
+            file,
+            most,
+            fault: None,
+        }
     }
 
     /// Why its first call failed that did.
@@ -50,6 +62,13 @@ impl SystemFile {
     }
 }
 
+// Whether so many bytes from this offset on end within a file of this length.
+fn is_within(at: usize, count: usize, most: u64) -> bool
+    ensures { IsTrue result ↔ (at + count ≤ most) }
+{
+    at as u64 <= most && count as u64 <= most - at as u64
+}
+
 impl Device for SystemFile {
     ghost disk = { system_disk };
 
@@ -61,7 +80,18 @@ impl Device for SystemFile {
         }
     }
 
-    fn write_at(&mut self, at: usize, bytes: &[u8]) -> Result<(), DeviceFault> {
+    /// Fails as the system does, by "file too large", where the file would be longer than it may.
+    fn write_at(&mut self, at: usize, bytes: &[u8]) -> Result<(), DeviceFault>
+        requires within { WhereTold system_disk self.old (at ≤ length (system_disk.seen self.old)) }
+        ensures written { OnOk result (WhereTold system_disk self.old
+            (Holds (system_disk.seen self.old) at bytes.now (system_disk.seen self.new))) }
+        ensures writes { WritesFile system_disk at bytes.now self.old self.new }
+        ensures cause { HasCause system_disk self.old self.new result }
+        ensures bound { most_bytes self.old < at + length bytes.now → result ≡ Err Failed }
+    {
+        if !is_within(at, bytes.len(), self.most) {
+            return Err(self.fail(io::Error::from_raw_os_error(TOO_LONG)));
+        }
         match self.file.write_all_at(bytes, at as u64) {
             Ok(()) => Ok(()),
             Err(why) => Err(self.fail(why)),

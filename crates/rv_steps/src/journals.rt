@@ -63,7 +63,7 @@ fn open_or_make(
 }
 
 fn open(alloc: Global, file: File) -> anyhow::Result<(DiskJournal<SystemFile>, Vec<u8>)> {
-    match DiskJournal::open(alloc, SystemFile::new(file), Vec::new(alloc)) {
+    match DiskJournal::open(alloc, SystemFile::new(file, u64::MAX), Vec::new(alloc)) {
         Ok(opened) => Ok(opened),
         Err((fault, _file)) => bail!("{fault}"),
     }
@@ -77,7 +77,7 @@ fn make(rt: &HostRuntime, path: &str) -> anyhow::Result<(DiskJournal<SystemFile>
         .write(true)
         .create(true)
         .open(rt, name.as_str())?;
-    match DiskJournal::create(rt.alloc(), SystemFile::new(file), b"") {
+    match DiskJournal::create(rt.alloc(), SystemFile::new(file, u64::MAX), b"") {
         Ok(journal) => {
             fs::rename(rt, name.as_str(), path)?;
             Ok((journal, Vec::new(rt.alloc())))

@@ -14,7 +14,7 @@ use std::process::ExitCode;
 /// that is of this epoch, or else begins it at moment 0, and prints how many entries it has. Then each line
 /// of standard input is added, as an entry's, and printed once it is stored.
 pub(crate) fn add_entries(rt: &HostRuntime, path: &str, epoch: u64) -> anyhow::Result<ExitCode> {
-    let mut folder = match SystemFolder::open(rt, path) {
+    let mut folder = match SystemFolder::open(rt, path, u64::MAX) {
         Ok(folder) => folder,
         Err(SystemFolderFault::Locked) => bail!("another server has {path}"),
         Err(SystemFolderFault::Io(why)) => bail!("{path}: {why}"),
