@@ -26,7 +26,7 @@ NUMBERS = {
 }
 # Texts that are no number within any of these limits.
 NO_NUMBERS = ["0", "", "x", "-1", "1.0", " 1", "1 ", "0x1", "1" + "0" * 19, "1" + "0" * 30, "１"]
-FLAGS = ["--listen", "--account", *(f"--{name}" for name in NUMBERS), "--status", "--status-name", "--quiet"]
+FLAGS = ["--listen", "--account", "--store", *(f"--{name}" for name in NUMBERS), "--new-epoch", "--status", "--status-name", "--quiet"]
 COMMANDS = ["book", "play", "serve", "call", "record", "audit", "verify", "host", "version"]
 # The version of the program, which is that of its clients.
 VERSION = re.findall(r'^__version__ = "(.+)"$', (ROOT / "clients/python/src/rendezvous/__init__.py").read_text(), re.M)[0]
@@ -94,6 +94,9 @@ def misspelt(program: str) -> None:
     refused(program, ["host", *LISTEN, "further"], 2, "further")
     refused(program, ["host", *LISTEN, *LISTEN], 2, "--listen")
     only(program, ["host", *LISTEN, "--epoch", "1", "--epoch-above", "1"], 2, "--epoch and --epoch-above: not both")
+    only(program, ["host", *LISTEN, "--account", "a", "--store", "s"], 2, "--account and --store: not both")
+    only(program, ["host", *LISTEN, "--new-epoch"], 2, "--new-epoch: only with --store")
+    only(program, ["host", *LISTEN, "--new-epoch", "--account", "a"], 2, "--new-epoch: only with --store")
 
 
 def addresses(program: str) -> None:

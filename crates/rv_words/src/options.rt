@@ -1,7 +1,8 @@
 //! The options of the long-running server, `rv host`: what its words name, or what is wrong with them.
-ghost use Rattle.std.specs.Prelude.{◌≡◌, [], IfErr, IfOk};
+ghost use Rattle.std.specs.Prelude.{◌≡◌, ◌↔◌, [], codes, IfErr, IfOk, IsTrue, None, Some, is_some};
+ghost use Rattle.std.specs.Prelude.{option_map, true};
 ghost use Rattle.clap.specs.Walk.{texts};
-ghost use Rattle.clap.specs.Words.{fault_of, found_of, matches_of, rows_of};
+ghost use Rattle.clap.specs.Words.{fault_of, first_of, found_of, matches_of, rows_of};
 ghost use Rattle.rv_words.specs.options.Epochs.{FitsRule, SaysRule};
 ghost use Rattle.rv_words.specs.options.Faults.{IsFault, IsFaultOf};
 ghost use Rattle.rv_words.specs.options.Numbers.{Fits, GivesNumber, given_for};
@@ -31,8 +32,12 @@ pub struct HostOptions<'a> {
     pub listen: &'a str,
     /// How it chooses its epoch.
     pub epoch: EpochRule,
+    /// Whether a new epoch begins in the store, which is there then.
+    pub new_epoch: bool,
     /// The file to which its account is written, if there is one.
     pub account: Option<&'a str>,
+    /// The folder in which its account is kept instead, as it was written, if there is one.
+    pub store: Option<&'a str>,
     /// Its status address, for HTTP, as it was written, if there is one.
     pub status: Option<&'a str>,
     /// The names under which that address is asked, beside `localhost` and each IP address, as they were
@@ -89,7 +94,9 @@ fn options_of<'a>(given: &ArgMatches<'a>) -> Result<HostOptions<'a>, HostFault<'
     Ok(HostOptions {
         listen,
         epoch: epoch_of(given)?,
+        new_epoch: new_epoch_of(given)?,
         account: text_of(given, "account"),
+        store: store_of(given)?,
         status: text_of(given, "status"),
         status_names: text_of(given, "status-name"),
         clients: number_of(given, HostNumber::Clients)?,
@@ -116,6 +123,38 @@ fn epoch_of<'a>(given: &ArgMatches<'a>) -> Result<EpochRule, HostFault<'a>>
         (true, false) => Ok(EpochRule::Exactly(number_of(given, HostNumber::Epoch)?)),
         (false, true) => Ok(EpochRule::Above(number_of(given, HostNumber::EpochAbove)?)),
         (false, false) => Ok(EpochRule::Clock),
+    }
+}
+
+// Whether a new epoch begins, for which there has to be a store.
+fn new_epoch_of<'a>(given: &ArgMatches<'a>) -> Result<bool, HostFault<'a>>
+    ensures ok { IfOk result (λ begins. IsTrue begins
+        ↔ (first_of (codes "new-epoch") (rows_of (found_of given.now)) ≡ Some (codes "true"))) }
+    ensures in_store { IfOk result (λ begins. IsTrue begins
+        → is_some (first_of (codes "store") (rows_of (found_of given.now))) ≡ true) }
+    ensures fault { IfErr result (IsFaultOf (rows_of (found_of given.now))) }
+{
+    let begins = is_given(given, "new-epoch");
+    if begins && text_of(given, "store").is_none() {
+        Err(HostFault::NoStore)
+    } else {
+        Ok(begins)
+    }
+}
+
+// The store, beside which there may be no account in a file of its own.
+fn store_of<'a>(given: &ArgMatches<'a>) -> Result<Option<&'a str>, HostFault<'a>>
+    ensures ok { IfOk result (λ store. option_map (λ folder. folder.now) store
+        ≡ first_of (codes "store") (rows_of (found_of given.now))) }
+    ensures alone { IfOk result (λ store.
+        is_some (first_of (codes "account") (rows_of (found_of given.now))) ≡ true → store ≡ None) }
+    ensures fault { IfErr result (IsFaultOf (rows_of (found_of given.now))) }
+{
+    let store = text_of(given, "store");
+    if store.is_some() && text_of(given, "account").is_some() {
+        Err(HostFault::TwoAccounts)
+    } else {
+        Ok(store)
     }
 }
 

@@ -31,6 +31,10 @@ account_row : first_of (codes "account") rows ≡ None
 unfolding clap_on_literals
 account_row = refl
 
+store_row : first_of (codes "store") rows ≡ None
+unfolding clap_on_literals
+store_row = refl
+
 status_row : first_of (codes "status") rows ≡ None
 unfolding clap_on_literals
 status_row = refl
@@ -46,6 +50,10 @@ epoch_row = refl
 above_row : given_for number.EpochAbove rows ≡ None
 unfolding clap_on_literals
 above_row = refl
+
+begin_row : first_of (codes "new-epoch") rows ≡ Some (codes "false")
+unfolding clap_on_literals
+begin_row = refl
 
 clients_row : given_for number.Clients rows ≡ Some (codes "65536")
 unfolding clap_on_literals
@@ -152,8 +160,10 @@ abbrev first_byte : Option Text → ℕ
 first_byte None = 0
 first_byte (Some text) = get_or text 0 0
 
-no_flag : first_of (codes "quiet") rows ≡ Some (codes "true") → ⊥
-no_flag is = let bytes : 116 ≡ 102 = ap first_byte (sym is ∙ quiet_row) in absurd (omega (arith, bytes))
+no_flag : (value : Option Text) → value ≡ Some (codes "false") → value ≡ Some (codes "true") → ⊥
+no_flag value false_is true_is =
+    let bytes : 116 ≡ 102 = ap first_byte (sym true_is ∙ false_is) in
+    absurd (omega (arith, bytes))
 
 true_flag : (flag : Bool) → (flag ≡ true → ⊥) → flag ≡ false
 true_flag true never = absurd (never refl)
@@ -177,9 +187,16 @@ bare_named options bare = record {
   said = record {
     listens = listen_row ∙ ap Some (sym bare.listens);
     keeps = account_row ∙ ap (option_map (λ (f : Bor Text). f.now)) (sym bare.keeps_none);
+    stores = store_row ∙ ap (option_map (λ (f : Bor Text). f.now)) (sym bare.stores_none);
+    one_account = λ _. bare.stores_none;
     tells = status_row ∙ ap (option_map (λ (t : Bor Text). t.now)) (sym bare.tells_none);
     tells_as = names_row ∙ ap (option_map (λ (t : Bor Text). t.now)) (sym bare.tells_as_none);
     in_epoch = subst (λ (rule : EpochRule). SaysRule rows rule) (sym bare.by_clock) (epoch_row, above_row);
+    begins = (
+      λ set. absurd (false_flag options.new_epoch bare.begins_none set),
+      λ flag. absurd (no_flag _ begin_row flag),
+    );
+    in_store = λ set. absurd (false_flag options.new_epoch bare.begins_none set);
     clients = given number.Clients rows (codes "65536") 65536 options.clients clients_row clients_written
         bare.clients;
     opens = given number.Open rows (codes "100000") 100000 options.open_places open_row open_written
@@ -193,7 +210,7 @@ bare_named options bare = record {
     stalls = given number.Stall rows (codes "30") 30 options.stall stall_row stall_written bare.stalls;
     is_quiet = (
       λ set. absurd (false_flag options.quiet bare.speaks set),
-      λ flag. absurd (no_flag flag),
+      λ flag. absurd (no_flag _ quiet_row flag),
     );
   };
 }
@@ -202,7 +219,9 @@ pub bare_alone : BareAlone
 bare_alone options named = record {
   listens = same_Some _ _ (sym named.said.listens ∙ listen_row);
   by_clock = by_clock options.epoch named.said.in_epoch;
+  begins_none = true_flag options.new_epoch (λ set. no_flag _ begin_row (named.said.begins.0 set));
   keeps_none = no_text options.account (sym account_row ∙ named.said.keeps);
+  stores_none = no_text options.store (sym store_row ∙ named.said.stores);
   tells_none = no_text options.status (sym status_row ∙ named.said.tells);
   tells_as_none = no_text options.status_names (sym names_row ∙ named.said.tells_as);
   clients = given_alone number.Clients rows (codes "65536") options.clients clients_row named.said.clients;
@@ -214,5 +233,5 @@ bare_alone options named = record {
   holds = given_alone number.Memory rows (codes "256") options.memory memory_row named.said.holds;
   idles = given_alone number.Idle rows (codes "3600") options.idle idle_row named.said.idles;
   stalls = given_alone number.Stall rows (codes "30") options.stall stall_row named.said.stalls;
-  speaks = true_flag options.quiet (λ set. no_flag (named.said.is_quiet.0 set));
+  speaks = true_flag options.quiet (λ set. no_flag _ quiet_row (named.said.is_quiet.0 set));
 }

@@ -1,5 +1,5 @@
 -- The rules by which a server chooses its epoch.
-use Rattle.std.specs.Prelude.{List, None, ◌≡◌}
+use Rattle.std.specs.Prelude.{List, None, ℕ, suc, ◌≡◌}
 use Rattle.clap.specs.Words.{Row}
 use Rattle.rv_words.specs.options.Numbers.{Fits, GivesNumber, given_for}
 use Rattle.rv_words.specs.declared.options.epoch.EpochRule.{EpochRule}
@@ -11,6 +11,18 @@ abbrev pub FitsRule : EpochRule → Type 0
 FitsRule Clock = Unit {0}
 FitsRule (Exactly epoch) = Fits number.Epoch epoch
 FitsRule (Above n) = Fits number.EpochAbove n
+
+-- the least epoch that a rule allows
+abbrev pub least_epoch : EpochRule → ℕ
+least_epoch Clock = 1
+least_epoch (Exactly epoch) = epoch
+least_epoch (Above n) = suc n
+
+-- the greatest
+abbrev pub most_epoch : EpochRule → ℕ
+most_epoch Clock = 9007199254740991
+most_epoch (Exactly epoch) = epoch
+most_epoch (Above n) = 9007199254740991
 
 -- the options, by their rows, say this rule
 abbrev pub SaysRule : List Row → EpochRule → Type 0

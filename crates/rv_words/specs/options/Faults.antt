@@ -1,5 +1,5 @@
 -- What is wrong with words that aren't options of `rv host`.
-use Rattle.std.specs.Prelude.{List, ℕ, None, Some, true, is_some, [], ◌≡◌}
+use Rattle.std.specs.Prelude.{codes, List, ℕ, None, Some, true, is_some, [], ◌≡◌}
 use Rattle.clap.specs.Words.{IsAmong, Row, Text, fault_of, first_of, kind_of, matches_of}
 use Rattle.clap.specs.declared.error.Error.{Error}
 use Rattle.clap.specs.declared.error.kind.ErrorKind.{ErrorKind}
@@ -8,7 +8,7 @@ use Rattle.rv_words.specs.options.Words.{host_app}
 use Rattle.rv_words.specs.options.Numbers.{WritesWithin, given_for}
 use Rattle.rv_words.specs.declared.options.fault.HostFault.{HostFault}
 use Rattle.rv_words.specs.declared.options.fault.HostFault.TheVariants.{Missing, NoMemory, Outside, Refused}
-use Rattle.rv_words.specs.declared.options.fault.HostFault.TheVariants.{TwoEpochs}
+use Rattle.rv_words.specs.declared.options.fault.HostFault.TheVariants.{NoStore, TwoAccounts, TwoEpochs}
 use Rattle.rv_words.specs.declared.options.number.HostNumber.TheVariants as number
 
 -- a fault of options that `clap` accepts, by their rows
@@ -19,6 +19,10 @@ IsFaultOf rows (Outside number given) = (given_for number rows ≡ Some given.no
 IsFaultOf rows (Missing word) = first_of word.now rows ≡ None
 IsFaultOf rows TwoEpochs = (is_some (given_for number.Epoch rows) ≡ true)
     × (is_some (given_for number.EpochAbove rows) ≡ true)
+IsFaultOf rows TwoAccounts = (is_some (first_of (codes "account") rows) ≡ true)
+    × (is_some (first_of (codes "store") rows) ≡ true)
+IsFaultOf rows NoStore = (first_of (codes "new-epoch") rows ≡ Some (codes "true"))
+    × (first_of (codes "store") rows ≡ None)
 IsFaultOf rows NoMemory = Unit {0}
 
 -- a fault of the words: one that `clap` finds, a call for help included, or else one of the options

@@ -13,7 +13,9 @@ bare_words = codes "host" ∷ codes "--listen" ∷ codes "127.0.0.1:7411" ∷ []
 pub record AreBare (options : HostOptions) : Type 0 where
   pub listens : options.listen.now ≡ codes "127.0.0.1:7411"
   pub by_clock : options.epoch ≡ Clock
+  pub begins_none : options.new_epoch ≡ false
   pub keeps_none : options.account ≡ None
+  pub stores_none : options.store ≡ None
   pub tells_none : options.status ≡ None
   pub tells_as_none : options.status_names ≡ None
   pub clients : options.clients ≡ 65536

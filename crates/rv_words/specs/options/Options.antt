@@ -1,5 +1,5 @@
 -- The options that words name.
-use Rattle.std.specs.Prelude.{codes, List, Some, true, option_map, [], ◌≡◌, ◌↔◌}
+use Rattle.std.specs.Prelude.{codes, List, None, Some, true, is_some, option_map, [], ◌≡◌, ◌↔◌}
 use Rattle.clap.specs.Words.{Row, Text, fault_of, first_of, matches_of}
 use Rattle.rv_words.specs.options.Words.{host_app}
 use Rattle.rv_words.specs.options.Numbers.{Fits, GivesNumber}
@@ -7,13 +7,25 @@ use Rattle.rv_words.specs.options.Epochs.{FitsRule, SaysRule}
 use Rattle.rv_words.specs.declared.options.number.HostNumber.TheVariants as number
 use Rattle.rv_words.specs.declared.options.HostOptions.{HostOptions}
 
+-- an account in a file of its own isn't beside a store
+abbrev pub HasOneAccount : HostOptions → Type 0
+HasOneAccount options = is_some options.account ≡ true → options.store ≡ None
+
+-- only where there is a store does a new epoch begin in it
+abbrev pub BeginsInStore : HostOptions → Type 0
+BeginsInStore options = options.new_epoch ≡ true → is_some options.store ≡ true
+
 -- the rows, each with the values of an option, say these options
 pub record SaysOptions (rows : List Row) (options : HostOptions) : Type 0 where
   pub listens : first_of (codes "listen") rows ≡ Some options.listen.now
   pub keeps : first_of (codes "account") rows ≡ option_map (λ file. file.now) options.account
+  pub stores : first_of (codes "store") rows ≡ option_map (λ folder. folder.now) options.store
+  pub one_account : HasOneAccount options
   pub tells : first_of (codes "status") rows ≡ option_map (λ address. address.now) options.status
   pub tells_as : first_of (codes "status-name") rows ≡ option_map (λ names. names.now) options.status_names
   pub in_epoch : SaysRule rows options.epoch
+  pub begins : (options.new_epoch ≡ true) ↔ (first_of (codes "new-epoch") rows ≡ Some (codes "true"))
+  pub in_store : BeginsInStore options
   pub clients : GivesNumber number.Clients rows options.clients
   pub opens : GivesNumber number.Open rows options.open_places
   pub connects : GivesNumber number.Connections rows options.connections
@@ -28,9 +40,12 @@ pub record NamesOptions (words : List Text) (options : HostOptions) : Type 0 whe
   pub taken : fault_of host_app words ≡ []
   pub said : SaysOptions (matches_of host_app words) options
 
--- each number of the options is within its option's limits, and there is an epoch by their rule
+-- each number of the options is within its option's limits, there is an epoch by their rule, and one account
+-- at most, which is a store where a new epoch begins in it
 pub record FitOptions (options : HostOptions) : Type 0 where
   pub in_epoch : FitsRule options.epoch
+  pub in_store : BeginsInStore options
+  pub one_account : HasOneAccount options
   pub clients : Fits number.Clients options.clients
   pub opens : Fits number.Open options.open_places
   pub connects : Fits number.Connections options.connections

@@ -15,9 +15,9 @@ text_rule name required =
 abbrev pub number_rule : HostNumber → List Text → Rule
 number_rule number usual = record (text_rule (option_word number) false) { defaults = usual }
 
--- `--quiet`
-abbrev pub flag_rule : Rule
-flag_rule = record (new_rule (codes "quiet")) { long = Some (codes "quiet"); action = Some SetTrue }
+-- a flag `--NAME`
+abbrev pub flag_rule : Text → Rule
+flag_rule name = record (new_rule name) { long = Some name; action = Some SetTrue }
 
 -- the app with these rules too, one after another
 abbrev pub with_rules : App → List Rule → App
@@ -29,10 +29,12 @@ abbrev pub host_app : App
 host_app = with_rules (new_app (codes "host"))
     (text_rule (codes "listen") true
     ∷ text_rule (codes "account") false
+    ∷ text_rule (codes "store") false
     ∷ text_rule (codes "status") false
     ∷ text_rule (codes "status-name") false
     ∷ number_rule number.Epoch []
     ∷ number_rule number.EpochAbove []
+    ∷ flag_rule (codes "new-epoch")
     ∷ number_rule number.Clients (codes "65536" ∷ [])
     ∷ number_rule number.Open (codes "100000" ∷ [])
     ∷ number_rule number.Connections (codes "10000" ∷ [])
@@ -40,5 +42,5 @@ host_app = with_rules (new_app (codes "host"))
     ∷ number_rule number.Memory (codes "256" ∷ [])
     ∷ number_rule number.Idle (codes "3600" ∷ [])
     ∷ number_rule number.Stall (codes "30" ∷ [])
-    ∷ flag_rule
+    ∷ flag_rule (codes "quiet")
     ∷ [])

@@ -1,8 +1,9 @@
 //! How a server chooses its epoch.
 ghost use Rattle.std.specs.Prelude.{◌≡◌, ◌<◌, ◌≤◌, suc, ℕ};
+ghost use Rattle.std.specs.Int.{IsInRange};
 ghost use Rattle.rv_words.specs.options.Numbers.{Fits};
 ghost use Rattle.rv_words.specs.declared.options.number.HostNumber.TheVariants as number;
-ghost use Rattle.rv_words.specs.options.Epochs.{FitsRule};
+ghost use Rattle.rv_words.specs.options.Epochs.{FitsRule, least_epoch, most_epoch};
 ghost use Rattle.rv_words.specs.declared.options.epoch.EpochRule.TheVariants.{Above, Clock, Exactly};
 
 // The greatest epoch.
@@ -24,6 +25,7 @@ impl EpochRule {
     /// is an epoch and the rule allows it.
     pub fn epoch(self, now: u64) -> u64
         requires { FitsRule self }
+        ensures allowed { IsInRange (least_epoch self) (most_epoch self) result }
         ensures fits { Fits number.Epoch result }
         ensures exactly { (e : ℕ) → self ≡ Exactly e → result ≡ e }
         ensures above { (n : ℕ) → self ≡ Above n → n < result }
@@ -32,10 +34,29 @@ impl EpochRule {
             → result ≡ now }
         ensures clock_behind { (n : ℕ) → self ≡ Above n → now ≤ n → result ≡ suc n }
     {
+        now.clamp(self.least(), self.most())
+    }
+
+    /// The least epoch that it allows.
+    pub fn least(self) -> u64
+        requires { FitsRule self }
+        ensures { result ≡ least_epoch self }
+    {
         match self {
-            EpochRule::Clock => now.clamp(1, MAX_EPOCH),
+            EpochRule::Clock => 1,
             EpochRule::Exactly(epoch) => epoch,
-            EpochRule::Above(number) => now.clamp(number + 1, MAX_EPOCH),
+            EpochRule::Above(number) => number + 1,
+        }
+    }
+
+    /// The greatest epoch that it allows.
+    pub fn most(self) -> u64
+        ensures { result ≡ most_epoch self }
+    {
+        match self {
+            EpochRule::Clock => MAX_EPOCH,
+            EpochRule::Exactly(epoch) => epoch,
+            EpochRule::Above(_) => MAX_EPOCH,
         }
     }
 }

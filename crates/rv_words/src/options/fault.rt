@@ -25,6 +25,10 @@ pub enum HostFault<'a> {
     Missing(&'static str),
     /// `--epoch` and `--epoch-above` are both there.
     TwoEpochs,
+    /// `--account` and `--store` are both there.
+    TwoAccounts,
+    /// `--new-epoch` is there, and `--store` isn't.
+    NoStore,
     /// Memory was refused.
     NoMemory,
 }
@@ -71,6 +75,8 @@ impl fmt::Display for HostFault<'_> {
             HostFault::Outside { number, given } => write_outside(f, *number, given),
             HostFault::Missing(word) => write!(f, "--{word}: no value"),
             HostFault::TwoEpochs => f.write_str("--epoch and --epoch-above: not both"),
+            HostFault::TwoAccounts => f.write_str("--account and --store: not both"),
+            HostFault::NoStore => f.write_str("--new-epoch: only with --store"),
             HostFault::NoMemory => f.write_str("no memory"),
         }
     }

@@ -86,6 +86,14 @@ const OPTIONS: &[ListedOption] = &[
         help: "A new file, to which each entry is written before it is answered",
     },
     ListedOption {
+        name: "store",
+        values: &["FOLDER"],
+        required: false,
+        action: ArgAction::Set,
+        usual: &[],
+        help: "A folder in which the account is kept: a later start goes on from it",
+    },
+    ListedOption {
         name: "status",
         values: &["ADDR"],
         required: false,
@@ -116,6 +124,14 @@ const OPTIONS: &[ListedOption] = &[
         action: ArgAction::Set,
         usual: &[],
         help: "The clock's milliseconds, but above this, for a clock that may go back",
+    },
+    ListedOption {
+        name: "new-epoch",
+        values: &[],
+        required: false,
+        action: ArgAction::SetTrue,
+        usual: &[],
+        help: "Begin a new epoch in the store",
     },
     ListedOption {
         name: "clients",

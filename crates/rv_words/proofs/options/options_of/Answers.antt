@@ -1,14 +1,19 @@
 -- Each field is what its option gives.
 use Rattle.std.proofs.Common.{sym}
+use Rattle.rv_words.proofs.OfOptions.Keeping.{in_store, one_account}
 use Rattle.rv_words.proofs.options.options_of.Goals as goal
 
 pub returns-clause-ok : goal.returns-clause-ok
 returns-clause-ok c = record {
   listens = sym c.in-Some.ensures;
   keeps = sym c.text_of-2.ensures;
+  stores = sym c.in_ok-store_of.ensures.ok;
+  one_account = one_account _ _ _ c.text_of-2.ensures c.in_ok-store_of.ensures.alone;
   tells = sym c.text_of-3.ensures;
   tells_as = sym c.text_of-4.ensures;
   in_epoch = c.in_ok-epoch_of.ensures.ok;
+  begins = c.in_ok-new_epoch_of.ensures.ok;
+  in_store = in_store _ _ _ c.in_ok-store_of.ensures.ok c.in_ok-new_epoch_of.ensures.in_store;
   clients = c.in_ok-number_of.ensures.ok;
   opens = c.in_ok-number_of-2.ensures.ok;
   connects = c.in_ok-number_of-3.ensures.ok;
@@ -22,6 +27,8 @@ returns-clause-ok c = record {
 pub returns-clause-fits : goal.returns-clause-fits
 returns-clause-fits c = record {
   in_epoch = c.in_ok-epoch_of.ensures.fits;
+  in_store = in_store _ _ _ c.in_ok-store_of.ensures.ok c.in_ok-new_epoch_of.ensures.in_store;
+  one_account = one_account _ _ _ c.text_of-2.ensures c.in_ok-store_of.ensures.alone;
   clients = c.in_ok-number_of.ensures.fits;
   opens = c.in_ok-number_of-2.ensures.fits;
   connects = c.in_ok-number_of-3.ensures.fits;
