@@ -1,4 +1,4 @@
 -- The definitions that the contracts cite.
-pub mod Files
 pub mod Statuses
 pub mod Turns
+pub mod Wishes

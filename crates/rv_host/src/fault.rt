@@ -1,5 +1,6 @@
 //! Why a server ends.
 use rv_frame::WriteFault;
+use rv_server_account::KeepFault;
 use std::alloc::{AllocError, AllocFailed};
 use std::io::ErrorKind;
 use std::{fmt, io};
@@ -13,6 +14,8 @@ pub(crate) enum HostEnd {
     Named(String, io::Error),
     /// The account's file didn't take all lines.
     Account(WriteFault),
+    /// The store of this name, or its file, isn't one to go on from, for this reason.
+    Store(String, String),
     /// The account's file may not grow as long as that.
     TooLong,
     /// The book doesn't take these limits.
@@ -38,6 +41,7 @@ impl fmt::Display for HostEnd {
                 None => write!(f, "{name}: {error}"),
             },
             HostEnd::Account(fault) => write!(f, "the account: {fault}"),
+            HostEnd::Store(name, why) => write!(f, "{name}: {why}"),
             HostEnd::TooLong => f.write_str("no longer file is allowed (ulimit -f)"),
             HostEnd::Limits => f.write_str("no such limits"),
             HostEnd::NoMemory => f.write_str("no memory"),
@@ -54,6 +58,16 @@ impl From<AllocError> for HostEnd {
 impl<T: Drop> From<AllocFailed<T>> for HostEnd {
     fn from(_error: AllocFailed<T>) -> HostEnd {
         HostEnd::NoMemory
+    }
+}
+
+impl From<KeepFault> for HostEnd {
+    fn from(fault: KeepFault) -> HostEnd {
+        match fault {
+            KeepFault::Named(name, error) => HostEnd::Named(name, error),
+            KeepFault::Unusable(name, why) => HostEnd::Store(name, why),
+            KeepFault::NoMemory => HostEnd::NoMemory,
+        }
     }
 }
 

@@ -9,11 +9,9 @@ ghost use Rattle.rv_host.specs.Statuses.{RefusesWords};
 use crate::fault::HostEnd;
 use crate::report::HostReport;
 use crate::shell::Shell;
-use crate::start::begin;
-use os::errno;
+use crate::start::{begin, begin_in_store};
+use rv_server_account::Keeper;
 use rv_words::options::{HostFault, HostOptions, read_host};
-use std::fs::File;
-use std::io;
 use std::io::Write;
 
 /// `rv host` with its options, the word `host` first: serves until it is killed or can't go on, and returns
@@ -52,8 +50,16 @@ fn serve(rt: &HostRuntime, options: &HostOptions<'_>) -> u8
 {
     let report = HostReport::new(rt, options.quiet);
     let is_there = report.is_there();
-    match begin(rt, options, report) {
-        Ok(mut shell) => go_on(rt, options, &mut shell),
+    match options.store {
+        Some(folder) => run(rt, is_there, begin_in_store(rt, options, folder, report)),
+        None => run(rt, is_there, begin(rt, options, report)),
+    }
+}
+
+// Serves, if it started.
+fn run<K: Keeper + Drop>(rt: &HostRuntime, is_there: bool, begun: Result<Shell<K>, HostEnd>) -> u8 {
+    match begun {
+        Ok(mut shell) => go_on(rt, &mut shell),
         Err(end) => {
             if is_there {
                 let _ = eprintln!(rt; "{end}");
@@ -64,24 +70,28 @@ fn serve(rt: &HostRuntime, options: &HostOptions<'_>) -> u8
 }
 
 // Serves to the end, and says why it ended.
-fn go_on(rt: &HostRuntime, options: &HostOptions<'_>, shell: &mut Shell<File>) -> u8 {
+fn go_on<K: Keeper + Drop>(rt: &HostRuntime, shell: &mut Shell<K>) -> u8 {
     match shell.serve(rt) {
         Ok(()) => 0,
         Err(end) => {
-            tell_end(rt, options, &shell.tally.report, &end);
+            tell_end(rt, &shell.account, &shell.tally.report, &end);
             1
         }
     }
 }
 
-// Says why a server ends. The system's error number still says why a write failed.
-fn tell_end(rt: &HostRuntime, options: &HostOptions<'_>, report: &HostReport, end: &HostEnd) {
-    let why = io::Error::from_raw_os_error(errno());
-    let text = match (end, options.account) {
-        (HostEnd::Account(fault), Some(path)) => {
-            format!(in rt.alloc(); "rv host ends: {path}: {fault}: {why}")
+// Says why a server ends.
+fn tell_end<K: Keeper>(rt: &HostRuntime, account: &Option<K>, report: &HostReport, end: &HostEnd) {
+    let text = match (end, account) {
+        (HostEnd::Account(fault), Some(account)) => {
+            let why = account.cause();
+            let name = account.name();
+            format!(in rt.alloc(); "rv host ends: {name}: {fault}: {why}")
         }
-        (HostEnd::TooLong, Some(path)) => { format!(in rt.alloc(); "rv host ends: {path}: {end}") }
+        (HostEnd::TooLong, Some(account)) => {
+            let name = account.name();
+            format!(in rt.alloc(); "rv host ends: {name}: {end}")
+        }
         _ => format!(in rt.alloc(); "rv host ends: {end}"),
     };
     match text {

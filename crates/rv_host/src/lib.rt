@@ -7,13 +7,11 @@
 //! ```
 #![tactic(auto)]
 
-mod account_file;
 mod door;
 mod fault;
 mod host;
 mod look_over;
 mod memory_watch;
-mod place;
 mod reception;
 mod report;
 mod reserve;

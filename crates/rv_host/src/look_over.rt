@@ -47,14 +47,15 @@ fn fault_of(kind: OverdueKind) -> FaultKind
 }
 
 impl LookOver {
-    /// None was looked at yet, and there is room for so many connections.
+    /// None was looked at yet at the start, which is at this moment, and there is room for so many connections.
     pub(crate) fn new(
         alloc: Global,
         connections: usize,
         limits: TimeLimits,
+        first: u64,
     ) -> Result<LookOver, AllocError> {
         Ok(LookOver {
-            last: 0,
+            last: first,
             frames: FrameLooks::new(alloc, connections)?,
             limits,
         })

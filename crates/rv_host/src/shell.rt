@@ -1,8 +1,7 @@
 //! The shell of a server: it hands what the poll reports to the traffic of its sockets, turn by turn.
-ghost use Rattle.std.specs.Prelude.{◌≡◌, OnOk};
-ghost use Rattle.rv_traffic.specs.CallRuns.{OnlyCalls};
+ghost use Rattle.std.specs.Prelude.{◌≡◌, IfOk, OnOk, false};
+ghost use Rattle.rv_traffic.specs.CallRuns.{OnlyCalls, RunsOnDevice};
 
-use crate::account_file::AccountFile;
 use crate::fault::HostEnd;
 use crate::look_over::LookOver;
 use crate::memory_watch::MemoryWatch;
@@ -11,12 +10,12 @@ use crate::report::{FaultKind, HostReport};
 use crate::tally::HostTally;
 use crate::turn_clock::TurnClock;
 use mio::net::TcpStream;
-use rv_engine::Engine;
+use rv_engine::{Engine, EngineFault};
+use rv_server_account::Keeper;
 use rv_status::{AnswerTally, CountedStream};
 use rv_traffic::links::Links;
 use rv_traffic::{Switchboard, TimeLimits, WaitingLists};
 use rv_words::options::HostOptions;
-use std::io::Write;
 
 // The longest that a poll waits, in milliseconds.
 const LONGEST_WAIT: u64 = 60_000;
@@ -29,8 +28,8 @@ const MEMORY_AGAIN: u64 = 10;
 pub(crate) type HostTraffic = Switchboard<CountedStream<TcpStream>>;
 
 /// A server: its account, over the traffic of its sockets, and what watches over them.
-pub(crate) struct Shell<W> {
-    pub(crate) account: Option<AccountFile<W>>,
+pub(crate) struct Shell<K> {
+    pub(crate) account: Option<K>,
     pub(crate) traffic: HostTraffic,
     pub(crate) clock: TurnClock,
     pub(crate) reception: Reception,
@@ -40,7 +39,7 @@ pub(crate) struct Shell<W> {
 }
 
 // Whoever owns one drops it in one step.
-impl<W: Drop> Drop for Shell<W> {
+impl<K: Drop> Drop for Shell<K> {
     fn drop(self) {
         let Shell {
             account: _,
@@ -67,13 +66,16 @@ pub(crate) struct ShellParts {
 }
 
 impl ShellParts {
-    /// A poll that watches these doors, and room for `connections` sockets.
+    /// A poll that watches these doors, and room for `connections` sockets. It starts at this moment.
     pub(crate) fn new(
         rt: &HostRuntime,
         options: &HostOptions<'_>,
         doors: Doors,
         connections: usize,
-    ) -> Result<ShellParts, HostEnd> {
+        first: u64,
+    ) -> Result<ShellParts, HostEnd>
+        ensures first { IfOk result (λ parts. parts.clock.first ≡ first) }
+    {
         let most_from = options.connections_from as usize;
         let most = (most_from < connections).then_some(most_from);
         let limits = TimeLimits {
@@ -81,10 +83,10 @@ impl ShellParts {
             idle: options.idle.saturating_mul(1_000),
         };
         Ok(ShellParts {
-            clock: TurnClock::new(rt)?,
+            clock: TurnClock::new(rt, first)?,
             reception: Reception::new(rt, doors, connections, most)?,
             memory: MemoryWatch::of_megabytes(options.memory),
-            look_over: LookOver::new(rt.alloc(), connections, limits)?,
+            look_over: LookOver::new(rt.alloc(), connections, limits, first)?,
             links: Links::new(rt.alloc(), connections)?,
             waits: WaitingLists::new(rt.alloc(), connections)?,
             answers: AnswerTally::new(rt.alloc())?,
@@ -92,16 +94,17 @@ impl ShellParts {
     }
 }
 
-impl<W: Drop> Shell<W> {
+impl<K: Drop> Shell<K> {
     /// A shell that has had no turn yet.
     pub(crate) fn new(
         parts: ShellParts,
-        account: Option<AccountFile<W>>,
+        account: Option<K>,
         engine: Engine,
         report: HostReport,
-    ) -> Shell<W>
+    ) -> Shell<K>
         ensures account { result.account ≡ account }
         ensures engine { result.traffic.engine ≡ engine }
+        ensures clock { result.clock ≡ parts.clock }
     {
         Shell {
             account,
@@ -118,7 +121,7 @@ impl<W: Drop> Shell<W> {
         }
     }
 
-    // The milliseconds since the start. A clock that fails stands still.
+    // The moment. A clock that fails stands still.
     fn now(&mut self, rt: &HostRuntime) -> u64
         ensures traffic { self.new.traffic ≡ self.old.traffic }
         ensures account { self.new.account ≡ self.old.account }
@@ -216,6 +219,46 @@ impl<W: Drop> Shell<W> {
         let room = self.memory.room_to_answer(&self.traffic);
         self.traffic.share_out(room, now);
     }
+}
+
+// Time goes on, if no line of the account is left.
+fn elapse<S: Drop>(traffic: &mut Switchboard<S>, now: u64)
+    ensures { OnlyCalls traffic.old traffic.new }
+{
+    if !traffic.catch_up() {
+        return;
+    }
+    traffic.pass(now);
+}
+
+// Looks whether the account's file is in its place, if one is kept.
+fn look_at_account<K: Keeper>(rt: &HostRuntime, account: &Option<K>, report: &mut HostReport) {
+    if let Some(account) = account {
+        if !account.is_kept(rt) {
+            report.note(FaultKind::AccountFile);
+        }
+    }
+}
+
+// Writes what was gathered of the account, and tells the hub.
+fn write_lines<K: Keeper, S: Drop>(
+    account: &mut K,
+    traffic: &mut Switchboard<S>,
+    now: u64,
+) -> Result<(), HostEnd>
+    ensures over { RunsOnDevice K.lasts traffic.old account.old traffic.new account.new }
+    ensures works { OnOk result (K.lasts.failed account.new ≡ false) }
+{
+    match traffic.write_lines(now, account) {
+        Ok(_) => Ok(()),
+        Err(EngineFault::NoMemory) => Ok(()),
+        Err(EngineFault::NotWritten(fault)) => Err(HostEnd::Account(fault)),
+        Err(EngineFault::Refused(_)) => Ok(()),
+    }
+}
+
+impl<K: Keeper + Drop> Shell<K> {
+    ghost use Rattle.rv_host.specs.Turns.{TakesAllLines, TurnsOver};
 
     // Sends all that may leave, and looks after all connections.
     fn send_all(&mut self, rt: &HostRuntime, now: u64)
@@ -248,33 +291,10 @@ impl<W: Drop> Shell<W> {
         look_at_account(rt, &self.account, report);
         report.tell(rt, now);
     }
-}
-
-// Time goes on, if no line of the account is left.
-fn elapse<S: Drop>(traffic: &mut Switchboard<S>, now: u64)
-    ensures { OnlyCalls traffic.old traffic.new }
-{
-    if !traffic.catch_up() {
-        return;
-    }
-    traffic.pass(now);
-}
-
-// Looks whether the account's file is in its place, if one is kept.
-fn look_at_account<W>(rt: &HostRuntime, account: &Option<AccountFile<W>>, report: &mut HostReport) {
-    if let Some(account) = account {
-        if !account.is_kept(rt) {
-            report.note(FaultKind::AccountFile);
-        }
-    }
-}
-
-impl<W: Write + Drop> Shell<W> {
-    ghost use Rattle.rv_host.specs.Turns.{TakesAllLines, TurnsOver};
 
     /// Serves until it can't go on.
     pub(crate) fn serve(&mut self, rt: &HostRuntime) -> Result<(), HostEnd>
-        ensures turns { TurnsOver W.contents self.old self.new }
+        ensures turns { TurnsOver K.lasts self.old self.new }
     {
         for _turn in 0..u64::MAX {
             match self.turn(rt) {
@@ -287,8 +307,8 @@ impl<W: Write + Drop> Shell<W> {
 
     // One turn: all that came is taken, and then the answers go out.
     fn turn(&mut self, rt: &HostRuntime) -> Result<(), HostEnd>
-        ensures turns { TurnsOver W.contents self.old self.new }
-        ensures works { OnOk result (TakesAllLines self.new.account) }
+        ensures turns { TurnsOver K.lasts self.old self.new }
+        ensures works { OnOk result (TakesAllLines K.lasts self.new.account) }
     {
         match self.poll(rt) {
             Ok(now) => self.go_through(rt, now),
@@ -298,8 +318,8 @@ impl<W: Write + Drop> Shell<W> {
 
     // The turn at a moment.
     fn go_through(&mut self, rt: &HostRuntime, now: u64) -> Result<(), HostEnd>
-        ensures turns { TurnsOver W.contents self.old self.new }
-        ensures works { OnOk result (TakesAllLines self.new.account) }
+        ensures turns { TurnsOver K.lasts self.old self.new }
+        ensures works { OnOk result (TakesAllLines K.lasts self.new.account) }
     {
         self.take_all(now);
         if !self.has_room() {
@@ -324,11 +344,11 @@ impl<W: Write + Drop> Shell<W> {
 
     // Writes what was gathered of the account, if one is kept, and tells the hub.
     fn write_account(&mut self, now: u64) -> Result<(), HostEnd>
-        ensures turns { TurnsOver W.contents self.old self.new }
-        ensures works { OnOk result (TakesAllLines self.new.account) }
+        ensures turns { TurnsOver K.lasts self.old self.new }
+        ensures works { OnOk result (TakesAllLines K.lasts self.new.account) }
     {
         match &mut self.account {
-            Some(account) => account.write_lines(&mut self.traffic, now),
+            Some(account) => write_lines(account, &mut self.traffic, now),
             None => Ok(()),
         }
     }

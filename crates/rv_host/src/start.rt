@@ -1,30 +1,35 @@
-//! The start of a server: its address, its account, its limits, and the line that reports them.
-ghost use Rattle.std.specs.Prelude.{◌≡◌, ◌↔◌, IfOk, IsSome, IsTrue};
+//! The start of a server: its address, its account, its limits, and the lines that report them.
+ghost use Rattle.std.specs.Prelude.{◌≡◌, ◌≤◌, ◌↔◌, IfOk, IsSome, IsTrue};
 ghost use Rattle.rv_engine.specs.Engines.{engine_state};
 ghost use Rattle.rv_engine.specs.EngineRuns.{BeginsStored};
 ghost use Rattle.rv_host.specs.Turns.{HasItsAccount};
+ghost use Rattle.rv_host.specs.Wishes.{wish_of};
+ghost use Rattle.rv_store.specs.Entered.{AreEpochs};
+ghost use Rattle.rv_machine.specs.Machines.{state_in};
+ghost use Rattle.rv_state.specs.resume.Resuming.{CanResume};
 ghost use Rattle.rv_words.specs.options.Numbers.{Fits};
 ghost use Rattle.rv_words.specs.options.Options.{FitOptions};
 ghost use Rattle.rv_words.specs.declared.options.number.HostNumber.TheVariants as number;
 
-use crate::account_file::{AccountFile, BegunAccount, begin_account};
 use crate::door::Door;
 use crate::fault::HostEnd;
-use crate::place::{AccountPlace, OpenAccount};
 use crate::reception::Doors;
 use crate::report::HostReport;
 use crate::shell::{Shell, ShellParts};
 use crate::status::StatusDesk;
+use crate::turn_clock::first_moment;
 use libc::types::rlimit;
 use libc::{RLIMIT_NOFILE, getrlimit};
 use mio::net::TcpListener;
-use os::errno;
 use rv_engine::Engine;
 use rv_hub::DEFAULT_PATIENCE;
 use rv_log::{StartSaid, call_text, start_text};
 use rv_machine::Machine;
 use rv_rules::Limits;
+use rv_server_account::{AccountFile, Keeper, StoreAccount, StoreStart, begin_file, enter};
+use rv_store::{EpochChoice, EpochWish};
 use rv_words::options::{HostOptions, VERSION};
+use std::alloc::AllocError;
 use std::fs::File;
 use std::io;
 use std::io::IsTerminal;
@@ -36,29 +41,38 @@ const SPARE: u64 = 16;
 
 const STATUS_SPARE: u64 = 33;
 
-// The system's number of the limit of a file's length, and of the error of a file that is too long.
+// The system's number of the limit of a file's length.
 const RLIMIT_FSIZE: i32 = 1;
 
-const EFBIG: i32 = 27;
-
 const MOST_ENTRIES: usize = 9_007_199_254_740_991;
+
+// The epoch of a server, the moment of its start, and its limits.
+#[derive(Clone, Copy)]
+struct Opening {
+    epoch: u64,
+    first: u64,
+    descriptors: Descriptors,
+}
 
 /// A server that listens, and has said so.
 pub(crate) fn begin(
     rt: &HostRuntime,
     options: &HostOptions<'_>,
     mut report: HostReport,
-) -> Result<Shell<File>, HostEnd>
+) -> Result<Shell<AccountFile<File>>, HostEnd>
     requires { FitOptions options.now }
     ensures kept { IfOk result HasItsAccount }
     ensures begins { IfOk result (λ shell. BeginsStored (engine_state shell.traffic.engine)) }
 {
-    let epoch = options.epoch.epoch(wall_clock(rt));
-    let descriptors = descriptors_of(options);
-    let engine = engine_of(rt, options, epoch, descriptors.connections as usize)?;
+    let opening = Opening {
+        epoch: options.epoch.epoch(wall_clock(rt)),
+        first: 0,
+        descriptors: descriptors_of(options),
+    };
+    let engine = engine_of(rt, options, opening)?;
     let ground = ground_of(rt, options)?;
-    let account = account_of(rt, options, epoch)?;
-    match open_doors(rt, options, &mut report, ground, epoch, descriptors) {
+    let account = account_of(rt, options, opening.epoch)?;
+    match open_doors(rt, options, &mut report, ground, opening) {
         Ok(parts) => Ok(Shell::new(parts, account, engine, report)),
         Err(end) => {
             leave(rt, &account);
@@ -68,10 +82,53 @@ pub(crate) fn begin(
     }
 }
 
+/// A server that keeps the store of a folder, listens, and has said so. It starts at the wall clock's moment,
+/// or at the last one of the account with which it goes on if that is later.
+pub(crate) fn begin_in_store<'a>(
+    rt: &'a HostRuntime,
+    options: &HostOptions<'_>,
+    folder: &str,
+    mut report: HostReport,
+) -> Result<Shell<StoreAccount<'a>>, HostEnd>
+    requires { FitOptions options.now }
+    ensures kept { IfOk result HasItsAccount }
+    ensures begins { IfOk result (λ shell. BeginsStored (engine_state shell.traffic.engine)) }
+    ensures later { IfOk result (λ shell.
+        (engine_state shell.traffic.engine).hub.now ≤ shell.clock.first) }
+{
+    let ground = ground_of(rt, options)?;
+    let wall = wall_clock(rt);
+    let most = limit_of(RLIMIT_FSIZE, u64::MAX);
+    let start = enter(rt, folder, wish_of(options), most, wall)?;
+    let text = store_text(rt, &start)?;
+    let descriptors = descriptors_of(options);
+    let engine = engine_over(rt, options, start.machine, true, descriptors)?;
+    let opening = Opening {
+        epoch: engine.hub().machine().epoch(),
+        first: first_moment(wall, engine.hub().now()),
+        descriptors,
+    };
+    let parts = open_doors(rt, options, &mut report, ground, opening)?;
+    report.say(rt, &text);
+    Ok(Shell::new(parts, Some(start.account), engine, report))
+}
+
+// Says with which account a server starts.
+fn store_text(rt: &HostRuntime, start: &StoreStart<'_>) -> Result<String, AllocError> {
+    let name = start.account.name();
+    let entries = start.machine.length();
+    match start.choice {
+        EpochChoice::GoesOn(_) => {
+            format!(in rt.alloc(); "store: {name} goes on after {entries} entries")
+        }
+        EpochChoice::Begins(_) => format!(in rt.alloc(); "store: {name} begins"),
+    }
+}
+
 // A start failed: the account's file is as it was before.
 fn leave(rt: &HostRuntime, account: &Option<AccountFile<File>>) {
     if let Some(account) = account {
-        account.place.leave(rt);
+        account.leave(rt);
     }
 }
 
@@ -115,15 +172,17 @@ fn open_doors(
     options: &HostOptions<'_>,
     report: &mut HostReport,
     ground: Ground,
-    epoch: u64,
-    descriptors: Descriptors,
-) -> Result<ShellParts, HostEnd> {
-    tell_start(rt, options, report, &ground.listener, epoch, descriptors)?;
+    opening: Opening,
+) -> Result<ShellParts, HostEnd>
+    ensures first { IfOk result (λ parts. parts.clock.first ≡ opening.first) }
+{
+    tell_start(rt, options, report, &ground.listener, opening)?;
     let doors = Doors {
         status: status_desk(rt, options, report, ground.status)?,
         door: Door::new(ground.listener),
     };
-    ShellParts::new(rt, options, doors, descriptors.connections as usize)
+    let connections = opening.descriptors.connections as usize;
+    ShellParts::new(rt, options, doors, connections, opening.first)
 }
 
 // The wall clock's milliseconds.
@@ -190,40 +249,20 @@ fn account_of(
     let Some(path) = options.account else {
         return Ok(None);
     };
-    let name = String::from_str(rt.alloc(), path)?;
-    match AccountPlace::open(rt, name) {
-        Ok(account) => begun(rt, path, account, epoch),
-        Err(error) => Err(named(rt, path, error)),
-    }
+    Ok(Some(begin_file(rt, path, epoch, limit_of(RLIMIT_FSIZE, u64::MAX))?))
 }
 
-// The account of an epoch, begun in an open file. If that fails, the file is as it was before, and the
-// system's error number still says why a write failed.
-fn begun(
-    rt: &HostRuntime,
-    path: &str,
-    account: OpenAccount,
-    epoch: u64,
-) -> Result<Option<AccountFile<File>>, HostEnd>
-    ensures some { IfOk result IsSome }
+// The epochs that the words allow.
+fn wish_of(options: &HostOptions<'_>) -> EpochWish
+    requires { FitOptions options.now }
+    ensures wish { result ≡ wish_of options.now }
+    ensures epochs { AreEpochs result }
 {
-    let OpenAccount { file, place } = account;
-    let most = limit_of(RLIMIT_FSIZE, u64::MAX);
-    let end = match begin_account(rt.alloc(), file, epoch, most) {
-        Ok(BegunAccount { file, bytes }) => {
-            return Ok(Some(AccountFile {
-                file,
-                bytes,
-                most,
-                place,
-            }));
-        }
-        Err(HostEnd::Account(_)) => named(rt, path, io::Error::from_raw_os_error(errno())),
-        Err(HostEnd::TooLong) => named(rt, path, io::Error::from_raw_os_error(EFBIG)),
-        Err(end) => end,
-    };
-    place.leave(rt);
-    Err(end)
+    EpochWish {
+        least: options.epoch.least(),
+        most: options.epoch.most(),
+        is_new: options.new_epoch,
+    }
 }
 
 // The end of a server that finds no such address or file.
@@ -234,14 +273,31 @@ fn named(rt: &HostRuntime, name: &str, error: io::Error) -> HostEnd {
     }
 }
 
+// The engine of a new epoch.
 fn engine_of(
     rt: &HostRuntime,
     options: &HostOptions<'_>,
-    epoch: u64,
-    connections: usize,
+    opening: Opening,
 ) -> Result<Engine, HostEnd>
-    requires { Fits number.Epoch epoch }
+    requires { Fits number.Epoch opening.epoch }
     ensures journal { IfOk result (λ engine. IsTrue engine.hub.has_journal ↔ IsSome options.now.account) }
+    ensures begins { IfOk result (λ engine. BeginsStored (engine_state engine)) }
+{
+    let machine = Machine::open(rt.alloc(), opening.epoch, opening.first)?;
+    let has_account = options.account.is_some();
+    engine_over(rt, options, machine, has_account, opening.descriptors)
+}
+
+// The engine of this machine, under the limits that the words name.
+fn engine_over(
+    rt: &HostRuntime,
+    options: &HostOptions<'_>,
+    machine: Machine,
+    has_account: bool,
+    descriptors: Descriptors,
+) -> Result<Engine, HostEnd>
+    requires { CanResume (state_in machine) }
+    ensures journal { IfOk result (λ engine. engine.hub.has_journal ≡ has_account) }
     ensures begins { IfOk result (λ engine. BeginsStored (engine_state engine)) }
 {
     let Some(limits) = Limits::new(
@@ -251,14 +307,13 @@ fn engine_of(
     ) else {
         return Err(HostEnd::Limits);
     };
-    let machine = Machine::open(rt.alloc(), epoch, 0)?;
     let engine = Engine::new(
         rt.alloc(),
         machine,
         limits,
         DEFAULT_PATIENCE,
-        options.account.is_some(),
-        connections,
+        has_account,
+        descriptors.connections as usize,
     )?;
     Ok(engine)
 }
@@ -282,16 +337,15 @@ fn tell_start(
     options: &HostOptions<'_>,
     report: &mut HostReport,
     listener: &TcpListener,
-    epoch: u64,
-    descriptors: Descriptors,
+    opening: Opening,
 ) -> Result<(), HostEnd> {
     let address = listener.local_addr()?;
     let name = format!(in rt.alloc(); "{address}")?;
     let said = StartSaid {
         address: &name,
-        epoch,
-        connections: descriptors.connections,
-        open_files: descriptors.open_files,
+        epoch: opening.epoch,
+        connections: opening.descriptors.connections,
+        open_files: opening.descriptors.open_files,
         clients: options.clients,
         open_places: options.open_places,
         memory: options.memory,

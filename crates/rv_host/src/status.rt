@@ -7,10 +7,13 @@ use crate::memory_watch::total;
 use crate::report::{FaultKind, HostReport};
 use crate::reserve::Reserve;
 use crate::shell::Shell;
+use crate::turn_clock::TurnClock;
 use mio::net::{TcpListener, TcpStream};
 use rv_hub::Hub;
+use rv_server_account::Keeper;
 use rv_status::{
-    FaultCounts, HostStatus, StatusNumbers, StatusPages, StatusSample, StatusTimes, take_sample,
+    FaultCounts, HostStatus, StatusNumbers, StatusPages, StatusSample, StatusTimes, WaitingRow,
+    take_sample,
 };
 use rv_survey::{Sights, list_queues, renew, unheard_row, waiting_row};
 use rv_words::options::{HostOptions, VERSION};
@@ -83,6 +86,14 @@ fn names_of(alloc: Global, option: Option<&str>) -> Result<Vec<String>, AllocErr
     Ok(names)
 }
 
+// A request's row, with the milliseconds of its moment since the start.
+fn since_start(clock: &TurnClock, row: Option<WaitingRow>) -> Option<WaitingRow> {
+    row.map(|row| WaitingRow {
+        since: clock.since_start(row.since),
+        ..row
+    })
+}
+
 impl StatusDesk {
     pub(crate) fn new(
         rt: &HostRuntime,
@@ -151,7 +162,12 @@ impl StatusDesk {
     }
 
     // Looks at the next clients, and goes on from the first after the last.
-    fn look_at_clients(&mut self, now: u64, hub: &Hub) -> Result<(), AllocError> {
+    fn look_at_clients(
+        &mut self,
+        clock: &TurnClock,
+        now: u64,
+        hub: &Hub,
+    ) -> Result<(), AllocError> {
         for _ in 0..CLIENTS_A_TURN.min(self.left) {
             self.left = self.left.saturating_sub(1);
             let Some((client, _)) = hub.machine().next_client(self.after) else {
@@ -160,9 +176,10 @@ impl StatusDesk {
                 break;
             };
             self.after = Some(client);
-            let waiting = waiting_row(hub.machine(), client);
+            let waiting = since_start(clock, waiting_row(hub.machine(), client));
             renew(&mut self.status.waiting, client, waiting)?;
-            let look = self.sights.look(client, unheard_row(hub, client), now);
+            let unheard = since_start(clock, unheard_row(hub, client));
+            let look = self.sights.look(client, unheard, clock.since_start(now));
             renew(&mut self.status.unheard, client, look.row)?;
             look.noted?;
         }
@@ -233,7 +250,7 @@ impl StatusDesk {
     }
 }
 
-impl<W: Drop> Shell<W> {
+impl<K: Keeper + Drop> Shell<K> {
     /// The turn of the status address, after all others. Its lists have room, so no memory is refused to
     /// them.
     pub(crate) fn show_status(&mut self, rt: &HostRuntime, now: u64)
@@ -245,7 +262,7 @@ impl<W: Drop> Shell<W> {
         let Some(desk) = &mut self.reception.doors.status else {
             return;
         };
-        let _ = desk.look_at_clients(now, self.traffic.engine().hub());
+        let _ = desk.look_at_clients(&self.clock, now, self.traffic.engine().hub());
         desk.serve(rt, now);
     }
 
@@ -272,7 +289,7 @@ impl<W: Drop> Shell<W> {
         let hub = self.traffic.engine().hub();
         let machine = hub.machine();
         StatusNumbers {
-            account_bytes: self.account.as_ref().map_or(0, |account| account.bytes),
+            account_bytes: self.account.as_ref().map_or(0, |account| account.bytes()),
             answers: self.tally.answers.counts(),
             buffer_bytes: u64::try_from(total(&self.traffic)).unwrap_or(u64::MAX),
             buffer_limit: u64::try_from(self.memory.most).unwrap_or(u64::MAX),
@@ -290,7 +307,7 @@ impl<W: Drop> Shell<W> {
             requests_unheard: hub.unheard() as u64,
             requests_waiting: machine.waiting() as u64,
             status_connections: 0,
-            uptime: now / SECOND,
+            uptime: self.clock.since_start(now) / SECOND,
         }
     }
 }

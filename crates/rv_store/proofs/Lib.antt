@@ -2,6 +2,8 @@
 mod Begun
 mod Formats
 mod Fronts
+mod Nearest
+mod NewAccount
 mod ReadOn
 mod Refused
 mod Reopened

@@ -1,4 +1,6 @@
 -- What a reader must agree with: all that the public contracts cite.
+pub mod Entered
+pub mod Epochs
 pub mod Format
 pub mod Found
 pub mod Lasting

@@ -1,10 +1,14 @@
 -- The present account of a store, as it is opened.
-use Rattle.std.specs.Prelude.{◌≡◌, ℕ, Some}
+use Rattle.std.specs.Prelude.{◌≡◌, ℕ, Some, true}
 use Rattle.rv_folder.specs.Folder.{Directory, GivenFile}
 use Rattle.rv_folder.specs.Present.{IsPresent}
 use Rattle.rv_folder.specs.declared.folder.FileName.TheVariants.{Account}
 use Rattle.rv_journal.specs.Device.{Disk}
+use Rattle.rv_journal.specs.Faults.{IfRefused, open_failed}
 use Rattle.rv_journal.specs.Journal.{IsDurable, journal_text}
+use Rattle.rv_journal.specs.Opened.{HasLines, IsLeftUnfilled, file_lines}
+use Rattle.rv_journal.specs.declared.fault.OpenFault.{OpenFault}
+use Rattle.rv_journal.specs.declared.fault.OpenFault.TheVariants.{NotFilled}
 use Rattle.rv_machine.specs.Machines.{state_in}
 use Rattle.rv_store.specs.Lasting.{journal_of}
 use Rattle.rv_store.specs.Reading.{HoldsJournal, IsLeftAsRefused}
@@ -27,10 +31,14 @@ pub record OpensPresent {F D : Type 0} (directory : Directory F) (disk : Disk D)
       stored.machine
   pub durable : IsDurable disk (journal_of stored.journal)
 
--- Its lines were refused, and it was left as it was.
-pub record RefusesPresent {F D : Type 0} (directory : Directory F) (disk : Disk D) (folder : F) (epoch : ℕ)
-    (why : RecoveryFault) : Type 0 where
+-- It was not opened, for this reason: it has the lines that it had, and was left as it was where they were
+-- refused or no zero stands in it.
+pub record FailsPresent {F D : Type 0} (directory : Directory F) (disk : Disk D) (folder : F) (epoch : ℕ)
+    (fault : OpenFault RecoveryFault) : Type 0 where
   pub old : D
   pub new : D
   pub file : IsPresentFile directory disk folder epoch old
-  pub left : IsLeftAsRefused disk epoch old new why
+  pub lines : HasLines (file_lines disk old) (disk.seen new)
+  pub not_filled : fault ≡ NotFilled → IsLeftUnfilled disk old new
+  pub refused : IfRefused fault (IsLeftAsRefused disk epoch old new)
+  pub cause : fault ≡ open_failed → disk.failed new ≡ true

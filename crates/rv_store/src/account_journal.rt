@@ -34,6 +34,13 @@ impl<D: Device> AccountJournal<D> {
         self.fault
     }
 
+    /// Its device, to be looked at.
+    pub fn device(&self) -> &D
+        ensures { result.now ≡ (journal_of self.now).device }
+    {
+        self.journal.device()
+    }
+
     /// Its device, as the last call left it.
     pub fn into_device(self) -> D
         ensures { result ≡ (journal_of self).device }

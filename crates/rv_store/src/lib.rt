@@ -6,14 +6,18 @@
 #![tactic(auto)]
 
 mod account_journal;
+mod entering;
 mod format;
 pub mod laws;
 mod opening;
 mod reader;
 mod store;
+mod wish;
 
 pub use account_journal::AccountJournal;
+pub use entering::{EnterFault, EnteredStore, enter_store};
 pub use format::{FORMAT, VERSION};
 pub use opening::{StoredAccount, open_account};
 pub use reader::{AccountReader, RecoveryFault};
 pub use store::{PresentFault, begin_account, open_present};
+pub use wish::{EpochChoice, EpochWish};

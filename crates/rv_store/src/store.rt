@@ -6,12 +6,12 @@ ghost use Rattle.rv_folder.specs.Present.{HasAccount, IsPresent};
 ghost use Rattle.rv_folder.specs.declared.beginning.BeginFault.TheVariants as OfBegin;
 ghost use Rattle.rv_journal.specs.Journal.{IsDurable, journal_text};
 ghost use Rattle.rv_journal.specs.declared.device.DeviceFault.TheVariants.{Failed};
-ghost use Rattle.rv_journal.specs.declared.fault.OpenFault.TheVariants as OfOpen;
+ghost use Rattle.rv_journal.specs.declared.fault.OpenFault.{OpenFault};
 ghost use Rattle.rv_machine.specs.Machines.{state_in};
 ghost use Rattle.rv_state.specs.resume.Resuming.{CanResume};
 ghost use Rattle.rv_store.specs.Format.{first_text};
 ghost use Rattle.rv_store.specs.Lasting.{fault_of, journal_of};
-ghost use Rattle.rv_store.specs.Store.{OpensPresent, RefusesPresent};
+ghost use Rattle.rv_store.specs.Store.{FailsPresent, OpensPresent};
 ghost use Rattle.rv_store.specs.declared.reader.RecoveryFault.{RecoveryFault};
 ghost use Rattle.rv_store.specs.declared.store.PresentFault.TheVariants as OfStore;
 
@@ -41,8 +41,7 @@ impl From<DeviceFault> for PresentFault {
 }
 
 /// Begins the account of an epoch that is greater than all others of the store, at this moment. Nothing may
-/// be
-/// said in it before that.
+/// be said in it before that.
 ///
 /// Whenever a crash comes, the account has no file, or one of its whole first line, and those of all others
 /// have theirs; at `Err` too. [`BeginFault`] says what failed.
@@ -83,6 +82,37 @@ pub fn begin_account<F: Folder>(
     Ok(AccountJournal::new(journal))
 }
 
+// Opens the account of the present epoch. The folder is synced first.
+pub(crate) fn open_epoch<F: Folder>(
+    alloc: Global,
+    folder: &mut F,
+    epoch: u64,
+) -> Result<StoredAccount<F::File>, PresentFault>
+    requires present { WhereNamed F.directory folder.old
+        (IsPresent (F.directory.seen folder.old) (Some epoch)) }
+    ensures opened { IfOk result (λ stored. WhereNamed F.directory folder.old
+        (OpensPresent F.directory F.File.disk folder.old stored)) }
+    ensures epoch { IfOk result (λ stored. WhereNamed F.directory folder.old
+        ((state_in stored.machine).epoch ≡ epoch)) }
+    ensures resumes { IfOk result (λ stored. CanResume (state_in stored.machine)) }
+    ensures works { IfOk result (λ stored. fault_of stored.journal ≡ None) }
+    ensures tells { IfOk result (λ stored.
+        F.File.disk.tells (journal_of stored.journal).device ≡ F.directory.tells folder.old) }
+    ensures names { OnOk result (WhereNamed F.directory folder.old ((names : FileNames)
+        → F.directory.may_leave folder.new names → SameNames names (F.directory.seen folder.old))) }
+    ensures failed { (other : ℕ) (fault : OpenFault RecoveryFault) → result ≡ Err (OfStore.Account other fault)
+        → WhereNamed F.directory folder.old
+        (FailsPresent F.directory F.File.disk folder.old other fault) }
+    ensures cause { result ≡ Err (OfStore.Folder Failed) → F.directory.failed folder.new ≡ true }
+{
+    folder.sync()?;
+    let file = folder.open_file(FileName::Account(epoch))?;
+    match open_account(alloc, file, epoch) {
+        Ok(stored) => Ok(stored),
+        Err((fault, _)) => Err(PresentFault::Account(epoch, fault)),
+    }
+}
+
 /// Opens the present account of a store, if it has one. Its folder is synced first.
 ///
 /// At `Err` no file has other lines than before; [`PresentFault`] says what failed.
@@ -100,18 +130,13 @@ pub fn open_present<F: Folder>(
         F.File.disk.tells (journal_of stored.journal).device ≡ F.directory.tells folder.old)) }
     ensures names { OnOk result (WhereNamed F.directory folder.old ((names : FileNames)
         → F.directory.may_leave folder.new names → SameNames names (F.directory.seen folder.old))) }
-    ensures refused { (epoch : ℕ) (why : RecoveryFault)
-        → result ≡ Err (OfStore.Account epoch (OfOpen.Refused why)) → WhereNamed F.directory folder.old
-        (RefusesPresent F.directory F.File.disk folder.old epoch why) }
+    ensures failed { (epoch : ℕ) (fault : OpenFault RecoveryFault) → result ≡ Err (OfStore.Account epoch fault)
+        → WhereNamed F.directory folder.old
+        (FailsPresent F.directory F.File.disk folder.old epoch fault) }
     ensures cause { result ≡ Err (OfStore.Folder Failed) → F.directory.failed folder.new ≡ true }
 {
-    folder.sync()?;
     let Some(epoch) = present_epoch(alloc, folder)? else {
         return Ok(None);
     };
-    let file = folder.open_file(FileName::Account(epoch))?;
-    match open_account(alloc, file, epoch) {
-        Ok(stored) => Ok(Some(stored)),
-        Err((fault, _)) => Err(PresentFault::Account(epoch, fault)),
-    }
+    Ok(Some(open_epoch(alloc, folder, epoch)?))
 }

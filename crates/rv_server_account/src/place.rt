@@ -1,6 +1,6 @@
 //! The account's file under its name: how it is opened, checked, and left if a start fails.
 ghost use Rattle.std.specs.Prelude.{◌↔◌, IsTrue};
-ghost use Rattle.rv_host.specs.Files.{IsInPlace};
+ghost use Rattle.rv_server_account.specs.Files.{IsInPlace, IsUnderName};
 
 use os::{RangeLock, errno, try_lock_range};
 use std::fs::{File, Metadata, OpenOptions};
@@ -61,6 +61,34 @@ fn is_in_place(own: FileSeen, named: Option<FileSeen>, written: u64) -> bool
     }
 }
 
+// Whether a file is the one under its name.
+fn is_under_name(own: FileSeen, named: Option<FileSeen>) -> bool
+    ensures { IsTrue result ↔ IsUnderName own named }
+{
+    match named {
+        Some(seen) => seen.device == own.device && seen.inode == own.inode,
+        None => false,
+    }
+}
+
+// What a look at a file and at its name shows, if the file can be looked at.
+fn look(rt: &HostRuntime, file: &File, name: &str) -> Option<(FileSeen, Option<FileSeen>)> {
+    let own = file.metadata().ok()?;
+    let named = match fs::metadata(rt, name) {
+        Ok(told) => Some(seen_of(&told)),
+        Err(_) => None,
+    };
+    Some((seen_of(&own), named))
+}
+
+/// Whether a file is the one under its name.
+pub(crate) fn is_there(rt: &HostRuntime, file: &File, name: &str) -> bool {
+    match look(rt, file, name) {
+        Some((own, named)) => is_under_name(own, named),
+        None => false,
+    }
+}
+
 // Whether an empty file is there.
 fn is_empty_file(rt: &HostRuntime, name: &str) -> bool {
     match fs::metadata(rt, name) {
@@ -102,6 +130,11 @@ impl AccountPlace {
         Ok(())
     }
 
+    /// Its name.
+    pub(crate) fn name(&self) -> &str {
+        &self.name
+    }
+
     /// A start failed: puts the file back as it was before.
     pub(crate) fn leave(&self, rt: &HostRuntime) {
         let _ = if self.was_there {
@@ -113,13 +146,9 @@ impl AccountPlace {
 
     /// Whether the file is the one under its name, and as long as what was written to it.
     pub(crate) fn is_kept(&self, rt: &HostRuntime, written: u64) -> bool {
-        let Ok(own) = self.file.metadata() else {
-            return false;
-        };
-        let named = match fs::metadata(rt, self.name.as_str()) {
-            Ok(told) => Some(seen_of(&told)),
-            Err(_) => None,
-        };
-        is_in_place(seen_of(&own), named, written)
+        match look(rt, &self.file, self.name.as_str()) {
+            Some((own, named)) => is_in_place(own, named, written),
+            None => false,
+        }
     }
 }

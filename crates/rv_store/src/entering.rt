@@ -1,0 +1,146 @@
+//! Enters a store: goes on with its present account, or begins one of a new epoch.
+ghost use Rattle.std.specs.Prelude.{◌≡◌, ◌≤◌, ℕ, Err, IfOk, None, Option, min, true};
+ghost use Rattle.rv_account.specs.Limits.{max_moment};
+ghost use Rattle.rv_folder.specs.Begun.{LeavesBegun};
+ghost use Rattle.rv_folder.specs.Folder.{KeepsNames, WhereNamed};
+ghost use Rattle.rv_folder.specs.Present.{IsPresent};
+ghost use Rattle.rv_journal.specs.declared.device.DeviceFault.TheVariants.{Failed};
+ghost use Rattle.rv_machine.specs.Machines.{state_in};
+ghost use Rattle.rv_rules.specs.Steps.{capped_moment};
+ghost use Rattle.rv_state.specs.resume.Resuming.{CanResume};
+ghost use Rattle.rv_store.specs.Entered.{AreEpochs, BeginsIn, EntersBy, IsChosen, IsStored};
+ghost use Rattle.rv_store.specs.Epochs.{HasNoChoice};
+ghost use Rattle.rv_store.specs.Lasting.{fault_of, journal_of};
+ghost use Rattle.rv_store.specs.Store.{FailsPresent};
+ghost use Rattle.rv_store.specs.declared.entering.EnterFault.TheVariants as OfEntry;
+ghost use Rattle.rv_store.specs.declared.store.PresentFault.TheVariants as OfStore;
+ghost use Rattle.rv_text.specs.Limits.{FitsIdentifier};
+
+use crate::opening::StoredAccount;
+use crate::store::{PresentFault, begin_account, open_epoch};
+use crate::wish::{EpochChoice, EpochWish};
+use rv_folder::{BeginFault, Folder, present_epoch};
+use rv_journal::{Device, DeviceFault};
+use rv_machine::Machine;
+use rv_text::NoMemory;
+use std::alloc::Global;
+
+// The greatest moment of an account.
+const MOST_MOMENT: u64 = 1 << 62;
+
+/// The account with which a server starts.
+#[derive(Drop)]
+pub struct EnteredStore<D: Device> {
+    /// Its journal, and the machine that goes on from it.
+    pub account: StoredAccount<D>,
+    /// Whether it is the present one of the store, or was begun.
+    pub choice: EpochChoice,
+}
+
+/// Why a start found no account in a store.
+#[derive(Drop)]
+pub enum EnterFault {
+    /// The folder failed, or its present account was not opened. No file has other lines than before.
+    Present(PresentFault),
+    /// The store has this epoch, if it has one, and none that is greater is allowed. Nothing changed.
+    NoEpoch(Option<u64>),
+    /// A new account was not begun: all others are as they were.
+    Begin(BeginFault),
+    /// Memory was refused. Nothing changed.
+    NoMemory,
+}
+
+impl From<DeviceFault> for EnterFault {
+    ghost from_gives = { λ fault told. told ≡ OfEntry.Present (OfStore.Folder fault) };
+
+    fn from(fault: DeviceFault) -> EnterFault {
+        EnterFault::Present(PresentFault::Folder(fault))
+    }
+}
+
+impl From<PresentFault> for EnterFault {
+    ghost from_gives = { λ fault told. told ≡ OfEntry.Present fault };
+
+    fn from(fault: PresentFault) -> EnterFault {
+        EnterFault::Present(fault)
+    }
+}
+
+impl From<BeginFault> for EnterFault {
+    ghost from_gives = { λ fault told. told ≡ OfEntry.Begin fault };
+
+    fn from(fault: BeginFault) -> EnterFault {
+        EnterFault::Begin(fault)
+    }
+}
+
+impl From<NoMemory> for EnterFault {
+    ghost from_gives = { λ _ told. told ≡ OfEntry.NoMemory };
+
+    fn from(_refused: NoMemory) -> EnterFault {
+        EnterFault::NoMemory
+    }
+}
+
+// The account of a new epoch, begun at this moment.
+fn begin<F: Folder>(
+    alloc: Global,
+    folder: &mut F,
+    epoch: u64,
+    opened: u64,
+) -> Result<StoredAccount<F::File>, EnterFault>
+    requires epoch { FitsIdentifier epoch }
+    requires moment { opened ≤ max_moment }
+    ensures begins { IfOk result (λ stored. WhereNamed F.directory folder.old
+        (BeginsIn F.directory F.File.disk folder.old folder.new epoch opened stored)) }
+    ensures stored { IfOk result (λ stored. WhereNamed F.directory folder.old
+        (IsStored F.File.disk stored)) }
+    ensures resumes { IfOk result (λ stored. CanResume (state_in stored.machine)) }
+    ensures works { IfOk result (λ stored. fault_of stored.journal ≡ None) }
+    ensures tells { IfOk result (λ stored.
+        F.File.disk.tells (journal_of stored.journal).device ≡ F.directory.tells folder.old) }
+{
+    let machine = Machine::open(alloc, epoch, opened)?;
+    let journal = begin_account(alloc, folder, epoch, opened)?;
+    Ok(StoredAccount { journal, machine })
+}
+
+/// Goes on with the present account of a store, if its epoch is allowed and no new one is asked for, and else
+/// begins one at this moment, in milliseconds of the wall clock: at most 2^62.
+///
+/// Its epoch is as [`EpochWish::choose`] says. Nothing may be said in a new epoch before that. Whenever a
+/// crash comes, all accounts that there were are found. At `Err` they are too; [`EnterFault`] says what
+/// failed.
+pub fn enter_store<F: Folder>(
+    alloc: Global,
+    folder: &mut F,
+    wish: EpochWish,
+    now: u64,
+) -> Result<EnteredStore<F::File>, EnterFault>
+    requires epochs { AreEpochs wish }
+    ensures chosen { IfOk result (λ entered.
+        IsChosen F.directory folder.old wish now entered.choice) }
+    ensures enters { IfOk result (λ entered. WhereNamed F.directory folder.old (EntersBy F.directory
+        F.File.disk folder.old folder.new (capped_moment now) entered.choice entered.account)) }
+    ensures stored { IfOk result (λ entered. WhereNamed F.directory folder.old
+        (IsStored F.File.disk entered.account)) }
+    ensures resumes { IfOk result (λ entered. CanResume (state_in entered.account.machine)) }
+    ensures works { IfOk result (λ entered. fault_of entered.account.journal ≡ None) }
+    ensures tells { IfOk result (λ entered.
+        F.File.disk.tells (journal_of entered.account.journal).device ≡ F.directory.tells folder.old) }
+    ensures no_epoch { (present : Option ℕ) → result ≡ Err (OfEntry.NoEpoch present)
+        → HasNoChoice wish present
+        × WhereNamed F.directory folder.old (IsPresent (F.directory.seen folder.old) present) }
+    ensures same { (present : Option ℕ) → result ≡ Err (OfEntry.NoEpoch present)
+        → KeepsNames F.directory folder.old folder.new }
+{
+    let present = present_epoch(alloc, folder)?;
+    let Some(choice) = wish.choose(present, now) else {
+        return Err(EnterFault::NoEpoch(present));
+    };
+    let account = match choice {
+        EpochChoice::GoesOn(epoch) => open_epoch(alloc, folder, epoch)?,
+        EpochChoice::Begins(epoch) => begin(alloc, folder, epoch, now.min(MOST_MOMENT))?,
+    };
+    Ok(EnteredStore { account, choice })
+}
