@@ -47,7 +47,7 @@ fn fault_of(kind: OverdueKind) -> FaultKind
 }
 
 impl LookOver {
-    /// None was looked at yet at the start, which is at this moment, and there is room for so many connections.
+    /// None was looked at yet at the start, which is at this moment. There is room for so many connections.
     pub(crate) fn new(
         alloc: Global,
         connections: usize,

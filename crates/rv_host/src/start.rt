@@ -48,7 +48,7 @@ const MOST_ENTRIES: usize = 9_007_199_254_740_991;
 
 // The epoch of a server, the moment of its start, and its limits.
 #[derive(Clone, Copy)]
-struct Opening {
+struct ServerStart {
     epoch: u64,
     first: u64,
     descriptors: Descriptors,
@@ -64,7 +64,7 @@ pub(crate) fn begin(
     ensures kept { IfOk result HasItsAccount }
     ensures begins { IfOk result (λ shell. BeginsStored (engine_state shell.traffic.engine)) }
 {
-    let opening = Opening {
+    let opening = ServerStart {
         epoch: options.epoch.epoch(wall_clock(rt)),
         first: 0,
         descriptors: descriptors_of(options),
@@ -75,7 +75,9 @@ pub(crate) fn begin(
     match open_doors(rt, options, &mut report, ground, opening) {
         Ok(parts) => Ok(Shell::new(parts, account, engine, report)),
         Err(end) => {
-            leave(rt, &account);
+            if let Some(account) = &account {
+                account.leave(rt);
+            }
             drop(engine);
             Err(end)
         }
@@ -103,7 +105,7 @@ pub(crate) fn begin_in_store<'a>(
     let text = store_text(rt, &start)?;
     let descriptors = descriptors_of(options);
     let engine = engine_over(rt, options, start.machine, true, descriptors)?;
-    let opening = Opening {
+    let opening = ServerStart {
         epoch: engine.hub().machine().epoch(),
         first: first_moment(wall, engine.hub().now()),
         descriptors,
@@ -122,13 +124,6 @@ fn store_text(rt: &HostRuntime, start: &StoreStart<'_>) -> Result<String, AllocE
             format!(in rt.alloc(); "store: {name} goes on after {entries} entries")
         }
         EpochChoice::Begins(_) => format!(in rt.alloc(); "store: {name} begins"),
-    }
-}
-
-// A start failed: the account's file is as it was before.
-fn leave(rt: &HostRuntime, account: &Option<AccountFile<File>>) {
-    if let Some(account) = account {
-        account.leave(rt);
     }
 }
 
@@ -172,7 +167,7 @@ fn open_doors(
     options: &HostOptions<'_>,
     report: &mut HostReport,
     ground: Ground,
-    opening: Opening,
+    opening: ServerStart,
 ) -> Result<ShellParts, HostEnd>
     ensures first { IfOk result (λ parts. parts.clock.first ≡ opening.first) }
 {
@@ -277,7 +272,7 @@ fn named(rt: &HostRuntime, name: &str, error: io::Error) -> HostEnd {
 fn engine_of(
     rt: &HostRuntime,
     options: &HostOptions<'_>,
-    opening: Opening,
+    opening: ServerStart,
 ) -> Result<Engine, HostEnd>
     requires { Fits number.Epoch opening.epoch }
     ensures journal { IfOk result (λ engine. IsTrue engine.hub.has_journal ↔ IsSome options.now.account) }
@@ -337,7 +332,7 @@ fn tell_start(
     options: &HostOptions<'_>,
     report: &mut HostReport,
     listener: &TcpListener,
-    opening: Opening,
+    opening: ServerStart,
 ) -> Result<(), HostEnd> {
     let address = listener.local_addr()?;
     let name = format!(in rt.alloc(); "{address}")?;

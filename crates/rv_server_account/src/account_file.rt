@@ -43,11 +43,6 @@ impl<W> AccountFile<W> {
             place,
         }
     }
-
-    /// A start failed: the file is as it was before, removed or empty.
-    pub fn leave(&self, rt: &HostRuntime) {
-        self.place.leave(rt);
-    }
 }
 
 // Whether this many more bytes may be written to a file that has some, and may have so many.
@@ -89,6 +84,10 @@ impl<W: Write> Keeper for AccountFile<W> {
 
     fn name(&self) -> &str {
         self.place.name()
+    }
+
+    fn leave(&self, rt: &HostRuntime) {
+        self.place.leave(rt);
     }
 
     // The system's error number still says why a write failed.

@@ -85,6 +85,8 @@ impl Keeper for StoreAccount<'_> {
         &self.name
     }
 
+    fn leave(&self, _rt: &HostRuntime) {}
+
     fn cause(&self) -> io::Error {
         match self.journal.device().fault() {
             Some(error) => again(error),

@@ -1,5 +1,5 @@
 -- A machine that was opened holds the account whose journal has its first line alone.
-use Rattle.std.proofs.Common.{◌≡◌, ◌≤◌, ◌++◌, ◌∷◌, ◌∙◌, ℕ, List, [], Some, zero, suc, ap, arith, refl, slice_get}
+use Rattle.std.proofs.Common.{◌≡◌, ◌≤◌, ◌∙◌, ℕ, List, [], Some, zero, suc, ap, arith, refl, slice_get}
 use Rattle.std.proofs.Common.{subst, sym, take}
 use Rattle.rv_account.specs.Account.{Account}
 use Rattle.rv_account.specs.Limits.{max_moment}

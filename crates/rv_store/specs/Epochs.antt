@@ -15,21 +15,21 @@ abbrev pub PresentGoesOn : EpochWish → Option ℕ → Type 0
 PresentGoesOn wish present = (epoch : ℕ) × (present ≡ Some epoch) × MayGoOn wish epoch
 
 -- An epoch that is allowed and greater than the present one.
-pub record MayBegin (wish : EpochWish) (present : Option ℕ) (epoch : ℕ) : Type 0 where
+pub record MayBeNew (wish : EpochWish) (present : Option ℕ) (epoch : ℕ) : Type 0 where
   pub least : wish.least ≤ epoch
   pub most : epoch ≤ wish.most
   pub greater : (other : ℕ) → present ≡ Some other → other < epoch
 
 -- where one up to the greatest that is allowed may begin, this is the least
 pub record IsLeastNew (wish : EpochWish) (present : Option ℕ) (epoch : ℕ) : Type 0 where
-  pub begins : epoch ≤ wish.most → MayBegin wish present epoch
-  pub least : (other : ℕ) → MayBegin wish present other → epoch ≤ other
+  pub begins : epoch ≤ wish.most → MayBeNew wish present epoch
+  pub least : (other : ℕ) → MayBeNew wish present other → epoch ≤ other
 
 -- Of those it is the nearest to the clock's milliseconds.
 pub record IsNearest (wish : EpochWish) (present : Option ℕ) (now epoch : ℕ) : Type 0 where
-  pub may : MayBegin wish present epoch
-  pub below : (other : ℕ) → MayBegin wish present other → other ≤ now → other ≤ epoch
-  pub above : (other : ℕ) → MayBegin wish present other → now ≤ other → epoch ≤ other
+  pub may : MayBeNew wish present epoch
+  pub below : (other : ℕ) → MayBeNew wish present other → other ≤ now → other ≤ epoch
+  pub above : (other : ℕ) → MayBeNew wish present other → now ≤ other → epoch ≤ other
 
 -- the present epoch goes on where it may, and only else a new one begins
 abbrev pub IsChoice : EpochWish → Option ℕ → ℕ → EpochChoice → Type 0
@@ -38,4 +38,4 @@ IsChoice wish present now (Begins epoch) = (PresentGoesOn wish present → ⊥) 
 
 -- no epoch is left
 abbrev pub HasNoChoice : EpochWish → Option ℕ → Type 0
-HasNoChoice wish present = (PresentGoesOn wish present → ⊥) × ((epoch : ℕ) → MayBegin wish present epoch → ⊥)
+HasNoChoice wish present = (PresentGoesOn wish present → ⊥) × ((epoch : ℕ) → MayBeNew wish present epoch → ⊥)

@@ -100,8 +100,8 @@ pub(crate) fn open_epoch<F: Folder>(
         F.File.disk.tells (journal_of stored.journal).device ≡ F.directory.tells folder.old) }
     ensures names { OnOk result (WhereNamed F.directory folder.old ((names : FileNames)
         → F.directory.may_leave folder.new names → SameNames names (F.directory.seen folder.old))) }
-    ensures failed { (other : ℕ) (fault : OpenFault RecoveryFault) → result ≡ Err (OfStore.Account other fault)
-        → WhereNamed F.directory folder.old
+    ensures failed { (other : ℕ) (fault : OpenFault RecoveryFault)
+        → result ≡ Err (OfStore.Account other fault) → WhereNamed F.directory folder.old
         (FailsPresent F.directory F.File.disk folder.old other fault) }
     ensures cause { result ≡ Err (OfStore.Folder Failed) → F.directory.failed folder.new ≡ true }
 {
@@ -130,8 +130,8 @@ pub fn open_present<F: Folder>(
         F.File.disk.tells (journal_of stored.journal).device ≡ F.directory.tells folder.old)) }
     ensures names { OnOk result (WhereNamed F.directory folder.old ((names : FileNames)
         → F.directory.may_leave folder.new names → SameNames names (F.directory.seen folder.old))) }
-    ensures failed { (epoch : ℕ) (fault : OpenFault RecoveryFault) → result ≡ Err (OfStore.Account epoch fault)
-        → WhereNamed F.directory folder.old
+    ensures failed { (epoch : ℕ) (fault : OpenFault RecoveryFault)
+        → result ≡ Err (OfStore.Account epoch fault) → WhereNamed F.directory folder.old
         (FailsPresent F.directory F.File.disk folder.old epoch fault) }
     ensures cause { result ≡ Err (OfStore.Folder Failed) → F.directory.failed folder.new ≡ true }
 {

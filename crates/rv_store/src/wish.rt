@@ -1,7 +1,7 @@
 //! Which epoch a start gets: the present one of a store, or a new one.
 ghost use Rattle.std.specs.Prelude.{◌≡◌, ℕ, IfSome, None};
 ghost use Rattle.std.specs.Bool.{OnFalse, OnTrue};
-ghost use Rattle.rv_store.specs.Epochs.{HasNoChoice, IsChoice, IsLeastNew, IsNearest, MayBegin, MayGoOn};
+ghost use Rattle.rv_store.specs.Epochs.{HasNoChoice, IsChoice, IsLeastNew, IsNearest, MayBeNew, MayGoOn};
 
 /// The epochs that a start allows.
 #[derive(Clone, Copy, Debug, PartialEq, Eq)]
@@ -35,7 +35,7 @@ impl EpochWish {
     // The least of those that are allowed and greater than the present one, but for the greatest.
     fn least_new(self, present: Option<u64>) -> Option<u64>
         ensures some { IfSome result (IsLeastNew self present) }
-        ensures none { result ≡ None → (epoch : ℕ) → MayBegin self present epoch → ⊥ }
+        ensures none { result ≡ None → (epoch : ℕ) → MayBeNew self present epoch → ⊥ }
     {
         match present {
             Some(present) => Some(self.least.max(present.checked_add(1)?)),
@@ -46,7 +46,7 @@ impl EpochWish {
     // The epoch of an account that is begun.
     fn begin(self, present: Option<u64>, now: u64) -> Option<u64>
         ensures some { IfSome result (IsNearest self present now) }
-        ensures none { result ≡ None → (epoch : ℕ) → MayBegin self present epoch → ⊥ }
+        ensures none { result ≡ None → (epoch : ℕ) → MayBeNew self present epoch → ⊥ }
     {
         let least = self.least_new(present)?;
         if least > self.most {

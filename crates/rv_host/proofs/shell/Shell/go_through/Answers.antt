@@ -25,7 +25,8 @@ returns-in-Err-clause-turns g c =
     c.write_account.ensures.turns
 
 pub returns-in-Ok-clause-works : goal.returns-in-Ok-clause-works
-returns-in-Ok-clause-works g c = subst (TakesAllLines g.K.Lasting.lasts) (sym c.send_all.ensures.account) c.in-Ok.ensures.works
+returns-in-Ok-clause-works g c =
+    subst (TakesAllLines g.K.Lasting.lasts) (sym c.send_all.ensures.account) c.in-Ok.ensures.works
 
 pub returns-then-not-has_room-clause-turns : goal.returns-then-not-has_room-clause-turns
 returns-then-not-has_room-clause-turns g c =
