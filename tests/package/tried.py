@@ -29,17 +29,17 @@ from tests import ROOT
 # What the package owns in the system.
 OWNED = ("usr/bin/rv", "usr/share/man/man1/rv.1.gz", "lib/systemd/system/rv.service", "etc/default/rv")
 UNIT, OPTIONS, STATE = "lib/systemd/system/rv.service", "etc/default/rv", "/var/lib/rv"
-# A consumer that waits, and a producer that comes later: both are told of the other. It is told the address.
+# A consumer that waits, and a producer that comes later: both are told of the other. It is told the address and their incarnation.
 HAND_OVER = """
 import sys, threading, time
 from rendezvous import Session
 took = []
 def consume():
-    with Session(sys.argv[1], client=2, incarnation=1) as consumer:
+    with Session(sys.argv[1], client=2, incarnation=int(sys.argv[2])) as consumer:
         took.append(consumer.take(3))
 thread = threading.Thread(target=consume)
 thread.start()
-with Session(sys.argv[1], client=1, incarnation=1) as producer:
+with Session(sys.argv[1], client=1, incarnation=int(sys.argv[2])) as producer:
     receipt = producer.transfer(3, "a")
 thread.join()
 print(took[0], receipt.by.client)
@@ -108,20 +108,35 @@ def started(base: pathlib.Path, address: str) -> Iterator[None]:
             print(server.communicate()[1], end="", file=sys.stderr)
 
 
-def served(base: pathlib.Path, client: pathlib.Path) -> None:
+def hand_over(base: pathlib.Path, client: pathlib.Path, address: str, incarnation: int) -> None:
+    """A hand-over between two clients that start in this incarnation."""
+    told = within(base, "env", f"PYTHONPATH=/{client.name}", "python3", "-c", HAND_OVER, address, str(incarnation))
+    demand(told == "a 2\n", f"the hand-over told {told!r}")
+
+
+def stored(base: pathlib.Path, client: pathlib.Path, address: str) -> None:
+    """Two starts of the service as it is installed, a hand-over at each: the second one goes on in the epoch of the first."""
+    (base / STATE[1:]).mkdir(mode=0o750)
+    for incarnation in (1, 2):
+        with started(base, address):
+            hand_over(base, client, address, incarnation)
+    kept = sorted(path.name for path in (base / STATE[1:] / "store").glob("epoch-*.account"))
+    demand(len(kept) == 1, f"the store has {kept}")
+    demand(within(base, "rv", "verify", f"{STATE}/store") == "legal\n", "the store's account isn't legal")
+    shutil.rmtree(base / STATE[1:])
+
+
+def served(base: pathlib.Path, client: pathlib.Path, address: str) -> None:
     """Three starts of the service, a hand-over at each. The second one lays the account of the first one aside; the third one finds an
     empty one, as a full disk leaves it, which isn't kept."""
-    address = free_address()
     options = base / OPTIONS
-    told = options.read_text().replace("127.0.0.1:7411", address).replace("RV_OPTIONS=", f'RV_OPTIONS="--account {STATE}/account"')
-    options.write_text(told)
+    options.write_text(options.read_text().replace(f"--store {STATE}/store", f"--account {STATE}/account"))
     (base / STATE[1:]).mkdir(mode=0o750)
     for accounts, is_emptied in ((1, False), (2, False), (2, True)):
         if is_emptied:
             (base / STATE[1:] / "account").write_text("")
         with started(base, address):
-            told = within(base, "env", f"PYTHONPATH=/{client.name}", "python3", "-c", HAND_OVER, address)
-        demand(told == "a 2\n", f"the hand-over told {told!r}")
+            hand_over(base, client, address, incarnation=1)
         kept = sorted(os.listdir(base / STATE[1:]))
         demand(len(kept) == accounts and kept[0] == "account", f"the accounts are {kept}")
         for name in kept:
@@ -136,7 +151,11 @@ def tried(package: pathlib.Path, base: pathlib.Path, room: pathlib.Path) -> None
     within(base, "dpkg", "--install", "/rv.deb")
     demand(all((base / name).is_file() for name in OWNED), "a file of the package isn't there")
     within(base, "rv", "help")
-    served(base, client)
+    address = free_address()
+    options = base / OPTIONS
+    options.write_text(options.read_text().replace("127.0.0.1:7411", address))
+    stored(base, client, address)
+    served(base, client, address)
     within(base, "dpkg", "--purge", "rv")
     demand(not any((base / name).exists() for name in OWNED), "a file of the package is left behind")
     demand((base / STATE[1:]).exists(), "the accounts went with the package")
