@@ -150,11 +150,12 @@ fn store_of<'a>(given: &ArgMatches<'a>) -> Result<Option<&'a str>, HostFault<'a>
         is_some (first_of (codes "account") (rows_of (found_of given.now))) ≡ true → store ≡ None) }
     ensures fault { IfErr result (IsFaultOf (rows_of (found_of given.now))) }
 {
-    let store = text_of(given, "store");
-    if store.is_some() && text_of(given, "account").is_some() {
-        Err(HostFault::TwoAccounts)
-    } else {
-        Ok(store)
+    let Some(store) = text_of(given, "store") else {
+        return Ok(None);
+    };
+    match text_of(given, "account") {
+        Some(_) => Err(HostFault::TwoAccounts),
+        None => Ok(Some(store)),
     }
 }
 
