@@ -16,8 +16,8 @@ pub trait Keeper: Lasting {
     /// The name of its file.
     fn name(&self) -> &str;
 
-    /// The start failed: an account that was begun in a file of its own is undone. One in a store stays, and a
-    /// later start goes on with it.
+    /// The start failed: an account that was begun in a file of its own is undone. One in a store stays, and
+    /// a later start goes on with it.
     fn leave(&self, rt: &HostRuntime);
 
     /// Why it took nothing at the last call, as the system says, if no other call was made since.
