@@ -25,6 +25,7 @@ MODULES = [
     "commands.decoding",
     "journal.run",
     "journal.store",
+    "journal.verified",
     "model.compare",
     "model.states",
     "model.hubs",

@@ -159,7 +159,7 @@ class Verify(Case):
         with tempfile.TemporaryDirectory() as folder:
             missing = f"{folder}/missing"
             self.check_equal("no such file", self.ran([missing]), ("", f"account {missing}: No such file or directory (os error 2)\n", 1))
-            self.check_equal("a folder", self.ran([folder]), ("", "run fault 1\n", 1))
+            self.check_equal("a folder", self.ran([folder]), ("", f"account {folder}: no epoch has an account\n", 1))
         rows: list[list[str]] = [[], ["a", "b"], ["--help"]]
         for words in rows:
             self.check_equal(f"the words {words}", self.ran(words), ("", "command fault 1\n", 2))

@@ -25,8 +25,6 @@ SPOILT = 200
 FORMAT = b"journal 1 "
 HEAD = b"epoch 1 opened 0\n"
 ROOM = bytes(4_096)
-# The status of `rv verify` where the end of a file is torn.
-TORN = 3
 
 
 def entries() -> Iterator[bytes]:
@@ -120,40 +118,6 @@ class Stores(Case):
             self.check_equal(f"epoch {epoch}", (ran.returncode, ran.stderr), (status, told))
         self.check_equal("the first one's file", text_of(self.account(7).read_bytes()), b"journal 1 epoch 7 opened 0\n")
         self.check_equal("the second one's", text_of(self.account(9).read_bytes()), b"journal 1 epoch 9 opened 0\n")
-
-    def verified(self, name: str, held: bytes, told: str, status: int) -> None:
-        """What `rv verify` tells of a file of these bytes, which it leaves as it is."""
-        file = self.folder / "verified"
-        file.write_bytes(held)
-        ran = subprocess.run([self.program, "verify", str(file)], capture_output=True, timeout=PATIENCE)
-        self.check_equal(name, (ran.returncode, ran.stdout, ran.stderr), (status, told.encode(), b""))
-        self.check_equal(f"{name}: its bytes", file.read_bytes(), held)
-
-    def test_verified(self) -> None:
-        """`rv verify` on a journal, zeros and all: a line counts with its LF."""
-        *made, last = itertools.islice(entries(), 4)
-        whole = FORMAT + HEAD + b"".join(made)
-        self.verified("whole lines", whole + ROOM, "legal\n", 0)
-        self.verified("lines after a zero", whole + b"\0" + b"lost\n" + ROOM, "legal\n", 0)
-        self.verified("no zero", whole, "legal\n", 0)
-        self.verified("an entry without its LF", whole[:-1] + ROOM, "legal\ntorn end\n", TORN)
-        self.verified("a first line without its LF", FORMAT + HEAD[:-1] + ROOM, "bad line 1\ntorn end\n", TORN)
-        self.verified("no line", FORMAT + ROOM, "bad line 1\n", 1)
-        self.verified("a moment that falls", whole + last.replace(b"3 - ", b"1 - ", 1) + ROOM, "fault 3 M1\n", 1)
-        self.verified("a bad line", whole + b"none\n" + ROOM, "bad line 5\n", 1)
-        self.verified("another version", b"journal 2 " + HEAD + ROOM, "bad line 1\ntorn end\n", TORN)
-
-    def test_followed(self) -> None:
-        """`rv verify --follow` reads on where zeros are written over."""
-        made, file = list(itertools.islice(entries(), 3)), self.folder / "followed"
-        file.write_bytes(FORMAT + HEAD + made[0] + ROOM)
-        with subprocess.Popen([self.program, "verify", "--follow", str(file)], stdout=subprocess.PIPE, stderr=subprocess.PIPE) as follower:
-            assert follower.stdout and follower.stderr
-            self.check_equal("how far it is", follower.stderr.readline(), b"1 entries so far\n")
-            with file.open("r+b") as writer:
-                writer.seek(len(FORMAT + HEAD + made[0]))
-                writer.write(made[1] + b"none\n")
-            self.check_equal("what it tells", (follower.wait(PATIENCE), follower.stdout.read()), (1, b"bad line 4\n"))
 
     def opens(self, name: str, epoch: int, held: bytes, told: str | None, found: int = 0) -> None:
         """A file of these bytes is opened with so many entries; or it is refused for this reason, and left as it is."""

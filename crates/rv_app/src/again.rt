@@ -53,6 +53,11 @@ impl Again for RegularFile<'_> {
     }
 }
 
+/// Whether a file that was opened is a folder.
+pub(crate) fn is_folder(file: &File) -> bool {
+    file.metadata().is_ok_and(|about| about.is_dir())
+}
+
 /// How many bytes a file has, or 0 if that isn't known.
 pub(crate) fn size_of(file: &File) -> u64 {
     file.metadata().map_or(0, |about| about.len())

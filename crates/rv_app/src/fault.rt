@@ -2,8 +2,23 @@
 use rv_end::StatusFault;
 use rv_run::RunFault;
 use rv_server::ServeFault;
+use rv_store::VERSION;
 use rv_words::command::CommandFault;
 use thiserror::Error;
+
+/// Why no account is verified, where a file or a folder is there.
+#[derive(Clone, Copy, Debug, Error)]
+pub(crate) enum NoAccount {
+    /// The folder has no file of an epoch's account.
+    #[error("no epoch has an account")]
+    NoEpoch,
+    /// The file is a journal in this version of the format, which isn't the one that is read.
+    #[error("journal version {0}; version {VERSION} is read")]
+    OtherVersion(u64),
+    /// The file is a journal whose first line has no end.
+    #[error("the journal has no whole line")]
+    NoLine,
+}
 
 /// The reason why the program ends before its command is done.
 #[derive(Clone, Copy, Debug, Error)]

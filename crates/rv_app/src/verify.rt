@@ -1,5 +1,5 @@
-//! Verifies the account in a file or on standard input, and a record of replies beside it. Of the account,
-//! only what is open and the clients are in memory.
+//! Verifies the account in a file, a store's folder or standard input, and a record of replies beside it. Of
+//! the account, only what is open and the clients are in memory.
 ghost use Rattle.std.specs.Prelude.{◌≡◌, ℕ, IfErr, IfOk, IfSome, List, Some, false, option_map};
 ghost use Rattle.std.specs.Io.Buffered.{reader_remaining};
 ghost use Rattle.rv_app.specs.Verifying.{IsFoundIn, IsReread, Reports, StopsReporting, beside};
@@ -9,13 +9,14 @@ ghost use Rattle.rv_verify.specs.Recording.{IsRecordOf};
 ghost use Rattle.rv_verify.specs.Stages.{AreNew};
 ghost use Rattle.rv_verify.specs.Verdicts.{TellsNotOpen};
 
-use crate::again::{Again, RegularFile, size_of};
-use crate::fault::ProgramFault;
+use crate::again::{Again, RegularFile, is_folder, size_of};
+use crate::fault::{NoAccount, ProgramFault};
 use crate::growing::follow;
-use crate::journal::{JournalFile, JournalText, is_journal};
+use crate::journal::{FileKind, JournalFile, JournalText, kind_of};
 use crate::watch::{Watch, Watched};
 use rv_account::{Entry, Place};
 use rv_audit::Rule;
+use rv_folder::present_account;
 use rv_frame::Sink;
 use rv_replies::Records;
 use rv_replies::findings::{AccountFinding, AccountVerdict};
@@ -31,11 +32,11 @@ use std::process::ExitCode;
 use std::sync::Wait;
 use std::time;
 
-// The status if a file can't be opened.
+// The status if a file can't be opened, or has no account in a form that is read.
 const UNREAD: u8 = 1;
 
-/// `rv verify`: verifies the account in a file or on standard input, and prints what it finds, and what the
-/// account says of each line of a record, if one is named.
+/// `rv verify`: verifies the account in a file, in a store's folder or on standard input, and prints what it
+/// finds, and what the account says of each line of a record, if one is named.
 pub(crate) fn run_verify<T: Wait + time::Clock>(
     rt: &HostRuntime,
     waits: &T,
@@ -67,41 +68,127 @@ fn verify_beside<T: Wait + time::Clock>(
     requires { AreNew records.old }
     ensures { records.new.lines ≡ records.old.lines }
 {
-    let mut sink = Sink::new(rt.stdout());
     if words.file == STANDARD_INPUT {
         let about = About::<RegularFile<'_>> {
             size: 0,
             is_journal: false,
             again: None,
         };
+        let mut sink = Sink::new(rt.stdout());
         let status = verify_bytes(rt, waits, words, &about, rt.stdin(), records, &mut sink)?;
         return Ok(ExitCode::from(status));
     }
     match File::open(rt, words.file) {
-        Ok(file) if is_journal(&file) => {
-            let about = About {
-                size: size_of(&file),
-                is_journal: true,
-                again: Some(JournalFile::at(words.file)),
-            };
-            let text = JournalText::new(file);
-            let status = verify_bytes(rt, waits, words, &about, text, records, &mut sink)?;
-            Ok(ExitCode::from(status))
-        }
-        Ok(file) => {
-            let about = About {
-                size: size_of(&file),
-                is_journal: false,
-                again: RegularFile::at(words.file, &file),
-            };
-            let status = verify_bytes(rt, waits, words, &about, file, records, &mut sink)?;
-            Ok(ExitCode::from(status))
-        }
-        Err(error) => {
-            unread(rt, "account", words.file, &error);
-            Ok(ExitCode::from(UNREAD))
-        }
+        Ok(file) if is_folder(&file) => verify_store(rt, waits, words, records),
+        Ok(file) => verify_file(rt, waits, words, file, records),
+        Err(error) => Ok(not_verified(rt, words.file, &error)),
     }
+}
+
+// The same of a store's folder: of the file of its present account. It takes no lock, so a server may write.
+fn verify_store<T: Wait + time::Clock>(
+    rt: &HostRuntime,
+    waits: &T,
+    words: &VerifyWords<'_>,
+    records: &mut Records,
+) -> Result<ExitCode, ProgramFault>
+    requires { AreNew records.old }
+    ensures { records.new.lines ≡ records.old.lines }
+{
+    match present_account(rt, words.file) {
+        Ok(Some(path)) => verify_present(rt, waits, words, &path, records),
+        Ok(None) => Ok(not_verified(rt, words.file, &NoAccount::NoEpoch)),
+        Err(error) => Ok(not_verified(rt, words.file, &error)),
+    }
+}
+
+// The same of the file at this path in place of what the words name.
+fn verify_present<T: Wait + time::Clock>(
+    rt: &HostRuntime,
+    waits: &T,
+    words: &VerifyWords<'_>,
+    path: &str,
+    records: &mut Records,
+) -> Result<ExitCode, ProgramFault>
+    requires { AreNew records.old }
+    ensures { records.new.lines ≡ records.old.lines }
+{
+    let words = VerifyWords {
+        file: path,
+        replies: words.replies,
+        follow: words.follow,
+    };
+    match File::open(rt, path) {
+        Ok(file) => verify_file(rt, waits, &words, file, records),
+        Err(error) => Ok(not_verified(rt, path, &error)),
+    }
+}
+
+// The same of this file, which the words name.
+fn verify_file<T: Wait + time::Clock>(
+    rt: &HostRuntime,
+    waits: &T,
+    words: &VerifyWords<'_>,
+    file: File,
+    records: &mut Records,
+) -> Result<ExitCode, ProgramFault>
+    requires { AreNew records.old }
+    ensures { records.new.lines ≡ records.old.lines }
+{
+    match kind_of(&file) {
+        FileKind::OtherVersion(version) => {
+            let fault = NoAccount::OtherVersion(version);
+            Ok(not_verified(rt, words.file, &fault))
+        }
+        FileKind::NoLine if !words.follow => {
+            Ok(not_verified(rt, words.file, &NoAccount::NoLine))
+        }
+        FileKind::Journal | FileKind::NoLine => verify_journal(rt, waits, words, file, records),
+        FileKind::Other => verify_other(rt, waits, words, file, records),
+    }
+}
+
+// The same of a journal.
+fn verify_journal<T: Wait + time::Clock>(
+    rt: &HostRuntime,
+    waits: &T,
+    words: &VerifyWords<'_>,
+    file: File,
+    records: &mut Records,
+) -> Result<ExitCode, ProgramFault>
+    requires { AreNew records.old }
+    ensures { records.new.lines ≡ records.old.lines }
+{
+    let about = About {
+        size: size_of(&file),
+        is_journal: true,
+        again: Some(JournalFile::at(words.file)),
+    };
+    let mut sink = Sink::new(rt.stdout());
+    let text = JournalText::new(file);
+    let status = verify_bytes(rt, waits, words, &about, text, records, &mut sink)?;
+    Ok(ExitCode::from(status))
+}
+
+// The same of another file.
+fn verify_other<T: Wait + time::Clock>(
+    rt: &HostRuntime,
+    waits: &T,
+    words: &VerifyWords<'_>,
+    file: File,
+    records: &mut Records,
+) -> Result<ExitCode, ProgramFault>
+    requires { AreNew records.old }
+    ensures { records.new.lines ≡ records.old.lines }
+{
+    let about = About {
+        size: size_of(&file),
+        is_journal: false,
+        again: RegularFile::at(words.file, &file),
+    };
+    let mut sink = Sink::new(rt.stdout());
+    let status = verify_bytes(rt, waits, words, &about, file, records, &mut sink)?;
+    Ok(ExitCode::from(status))
 }
 
 // What is known of an input.
@@ -381,7 +468,13 @@ pub(crate) fn run_fault(fault: VerifyFault) -> RunFault {
     }
 }
 
-// Says which file can't be opened, and why.
+// Says why the account at a path isn't verified, and returns the status.
+fn not_verified<E: Display>(rt: &HostRuntime, path: &str, why: &E) -> ExitCode {
+    unread(rt, "account", path, why);
+    ExitCode::from(UNREAD)
+}
+
+// Says which file isn't read, and why.
 fn unread<E: Display>(rt: &HostRuntime, what: &str, path: &str, why: &E) {
     let _ = eprintln!(rt; "{what} {path}: {why}");
 }
