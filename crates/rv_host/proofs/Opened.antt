@@ -16,10 +16,10 @@ use Rattle.rv_words.specs.declared.options.number.HostNumber.TheVariants as numb
 within : (n : ℕ) → capped_moment n ≤ max_moment
 within n = omega arith
 
-pub opened_resumes : (machine : Machine) (epoch : ℕ) → Fits number.Epoch epoch
-    → state_in machine ≡ opening epoch (capped_moment 0) → CanResume (state_in machine)
-opened_resumes machine epoch fits is =
-    subst CanResume (sym is) (openings_resume epoch (capped_moment 0) (fits.0, fits.1) (within 0))
+pub opened_resumes : (machine : Machine) (epoch now : ℕ) → Fits number.Epoch epoch
+    → state_in machine ≡ opening epoch (capped_moment now) → CanResume (state_in machine)
+opened_resumes machine epoch now fits is =
+    subst CanResume (sym is) (openings_resume epoch (capped_moment now) (fits.0, fits.1) (within now))
 
 -- all of a new engine is written, and stored
 pub begins_new : (s : EngineState) (hub : DispatcherState) (stored room : ℕ)
