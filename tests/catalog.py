@@ -33,6 +33,8 @@ MODULES = [
     "faults.hub_growths",
     "sockets.serve",
     "host.run",
+    "host.stores",
+    "host.store_files",
     "faults.devices",
     "faults.growths",
     "faults.torture",
