@@ -35,6 +35,7 @@ MODULES = [
     "host.run",
     "host.stores",
     "host.store_files",
+    "host.power_cuts",
     "faults.devices",
     "faults.growths",
     "faults.torture",

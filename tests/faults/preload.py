@@ -16,18 +16,18 @@ SOURCE = pathlib.Path(__file__).resolve().with_suffix(".c")
 LIBRARY = SOURCE.parents[2] / "out/preload.so"
 
 
-def built() -> None:
-    """Builds the library, unless it is newer than its source."""
-    if LIBRARY.exists() and LIBRARY.stat().st_mtime > SOURCE.stat().st_mtime:
+def built(source: pathlib.Path = SOURCE, library: pathlib.Path = LIBRARY) -> None:
+    """Builds a library, unless it is newer than its source."""
+    if library.exists() and library.stat().st_mtime > source.stat().st_mtime:
         return
     if not shutil.which("cc"):
         sys.exit("cc is missing: it builds what lets memory, devices and the system fail a program")
-    LIBRARY.parent.mkdir(exist_ok=True)
+    library.parent.mkdir(exist_ok=True)
     # Others may load it meanwhile, so it comes to its place whole.
-    with tempfile.TemporaryDirectory(dir=LIBRARY.parent) as folder:
-        made = pathlib.Path(folder) / LIBRARY.name
-        subprocess.run(["cc", "-O1", "-shared", "-fPIC", "-o", made, SOURCE, "-ldl"], check=True)
-        os.replace(made, LIBRARY)
+    with tempfile.TemporaryDirectory(dir=library.parent) as folder:
+        made = pathlib.Path(folder) / library.name
+        subprocess.run(["cc", "-O1", "-shared", "-fPIC", "-o", made, source, "-ldl"], check=True)
+        os.replace(made, library)
 
 
 def switches(**given: object) -> dict[str, str]:

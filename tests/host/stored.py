@@ -16,7 +16,7 @@ from tests.model.account import Account
 from tests.sockets.accounts import read_account
 from tests.sockets.hosts import Host
 from tests.sockets.programs import TRIES, Process
-from tests.sockets.wire import PATIENCE, Peer, demand, until
+from tests.sockets.wire import PATIENCE, Peer, Wrong, demand, until
 
 # The line by which it tells with which account it starts.
 STORE = re.compile(rb"store: (.+)/epoch-(\d+)\.account (?:goes on after (\d+) entries|(begins))\n")
@@ -41,12 +41,13 @@ class StoreHost(Host):
         return ["host", "--listen", f"127.0.0.1:{self.port}", "--store", str(self.store), *self.options]
 
     def told_start(self) -> Start:
-        """With what it starts, once it has told so."""
-        until("a host tells its store", lambda: STORE.search(self.said) or not self.runs())
-        demand(self.runs() or self.status() == 0, f"a host ends, and says {self.said!r}")
+        """With what it starts, once it has told so. It may have ended since then."""
+        until("a host tells its store, or ends", lambda: STORE.search(self.said) or not self.runs())
+        if not self.runs():
+            self.status()
         found = STORE.search(self.said)
-        assert found
-        demand(found[1] == bytes(self.store), f"it tells another folder: {self.said!r}")
+        if found is None or found[1] != bytes(self.store):
+            raise Wrong(f"a host that is to keep {self.store} says {self.said!r}")
         self.epoch = int(found[2])
         return Start(self.epoch, None if found[4] else int(found[3]))
 

@@ -10,6 +10,7 @@ import stat
 import threading
 import time
 import unittest
+from collections.abc import Callable
 
 from tests.cases import Case, SideBySide
 from tests.faults.crowds import Stubborn
@@ -27,9 +28,9 @@ ANY = ("--epoch", str(EPOCH))
 # How many requests are asked, and once in how many the host is killed before one.
 REQUESTS, KILLED = 50, 8
 CLIENTS = (1, 2, 3)
-# The clients of a crowd, how many crowds the gate tries, and how often each one's host is killed at most: behind fewer further replies
-# than these, or behind so many seconds, where all wait.
-CROWD, CROWDS, KILLS, REPLIES, LONGEST = 6, 3, 15, 9, 0.4
+# The clients of a crowd, how many crowds the gate tries, and how often each one's host is killed at most: behind fewer further
+# replies than these, or behind so many seconds, where all wait.
+CROWD, CROWDS, KILLS, REPLIES, LONGEST = 6, 3, 20, 9, 0.4
 # How much later at most, in seconds.
 LATER = 0.01
 # What a wall clock jumps by, in seconds, and a wait in between, in milliseconds.
@@ -39,8 +40,8 @@ SHORT = 200
 
 
 class Talk:
-    """Clients that ask one after another, each time over a new connection and with no hello but the first; what they asked, and what they
-    were told, which is known before."""
+    """Clients that ask one after another, each time over a new connection and with no hello but the first; what they asked, and what
+    they were told, which is known before."""
 
     def __init__(self, host: StoreHost):
         self.host = host
@@ -55,7 +56,8 @@ class Talk:
         """A client's next request."""
         number = self.last[client][0].number + 1 if client in self.last else 1
         key = Key(self.host.epoch, client, 1, number)
-        call = give("put", f"{client}#{number}") if word == "put" else take("now") if word == "take" else {"call": "count", "queue": 3}
+        calls = {"put": give("put", f"{client}#{number}"), "take": take("now"), "count": {"call": "count", "queue": 3}}
+        call = calls[word]
         self.asked[key] = call
         reply = self.reply_to(call)
         with self.host.connect() as peer:
@@ -225,8 +227,8 @@ class Clocks(StoreCase):
     """The wall clock of a start shows another time than that of the one before."""
 
     def test_a_clock_that_jumps(self) -> None:
-        """It goes back an hour, ahead a day, and back: moments never fall, a wait is over when the clock is past its end, and waits of
-        a start are as long as they are to be."""
+        """It goes back an hour, ahead a day, and back: moments never fall, a wait is over when the clock is past its end, and waits
+        of a start are as long as they are to be."""
         system, wish = System(), Key(EPOCH, 1, 1, 1)
         asked: Asked = {wish: take(2 * MINUTES, 5)}
         told: Told = []
@@ -279,23 +281,27 @@ class Crowds(StoreCase):
         self.told = f"{kills} kills"
 
 
-def under_kills(host: KilledHost, ledger: Ledger, chance: random.Random) -> int:
-    """A crowd at a host that is killed at random moments, and what must hold behind it; how often it was killed."""
+def under_kills(host: KilledHost, ledger: Ledger, chance: random.Random, between: Callable[[bool], object] = bool) -> int:
+    """A crowd at a host that is killed at random moments, and what must hold behind it; how often it was killed. What is `between`
+    is done before each next start, and told whether that is the last one."""
     kills = 0
 
-    def kill(done: threading.Event) -> None:
+    def start_again(is_last: bool) -> None:
         nonlocal kills
+        kills += 1
+        host.start_again(functools.partial(between, is_last))
+
+    def kill(done: threading.Event) -> None:
         while kills < KILLS and not (kills and done.is_set()):
             wanted, ends = len(ledger.told) + chance.randrange(REPLIES), time.monotonic() + LONGEST
-            while len(ledger.told) < wanted and time.monotonic() < ends:
+            while len(ledger.told) < wanted and time.monotonic() < ends and host.runs():
                 time.sleep(LATER / 10)
             time.sleep(chance.uniform(0, LATER))
-            host.start_again()
-            kills += 1
+            start_again(kills + 1 == KILLS)
 
     clients = [Stubborn(host, ledger, number, random.Random(chance.random())) for number in range(1, CROWD + 1)]
-    drive(host, ledger, [client.run for client in clients], beside=[kill], rest=lambda: take_the_rest(host, ledger, CROWD + 1),
-          end=host.use_up)
+    drive(host, ledger, [client.run for client in clients], beside=[kill], calm=functools.partial(start_again, True),
+          rest=lambda: take_the_rest(host, ledger, CROWD + 1), end=host.use_up)
     return kills
 
 
