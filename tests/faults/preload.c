@@ -11,7 +11,7 @@
 
    The system. Growths are refused, what is read from and written to sockets is cut short or fails, connections can't be
    accepted, threads can't be started, the clock can't be read, a sleep ends at once, the time-outs of sockets are
-   shorter, the disk is full, the wall clock shows another time, and the steady clock stands, or goes on by looks at epoll. How
+   shorter, the disk is full or stores nothing, the wall clock shows another time, and the steady clock stands, or goes on by looks at epoll. How
    often stands in the file FAULT_PAGE, a row of 32-bit numbers that may be changed at any time from outside. Of the odds, 0 is
    never, and n is once in n at random, with the seed FAULT_SEED; so 1 is always. A read and a write fail once in so many bytes.
    After them stand how many times each of these was done, how many reads and writes of sockets were asked for, how often epoll
@@ -68,9 +68,10 @@ enum { POLLS, RESTS, KEEPS_ALIVE, USER_TIME_OUT, NO_DELAY, SEEN };
    accepted the system keeps `kept` bytes, about. Files take `disk` - 1 bytes more, and then there is no space; with 0 there
    always is. The wall clock is so many seconds ahead by `wall`, a number with a sign. The steady clock stands at `stopped`
    milliseconds, where that is not 0, and waits of epoll end by it. It goes on by `pace` with each look at epoll that doesn't
-   wait. */
+   wait. Nothing is stored where `unstored` is not 0: each sync fails. */
 struct page {
-    uint32_t odds[ODDS], most, growth_at, read_at, room, calm, thread_at, haste, kept, disk, wall, stopped, pace;
+    uint32_t odds[ODDS], most, growth_at, read_at, room, calm, thread_at, haste, kept, disk, wall, stopped, pace,
+        unstored;
     uint32_t made[ODDS], asked[WAYS], seen[SEEN];
 };
 
@@ -202,16 +203,39 @@ static int is_file(int device) {
     return page && page->disk && !fstat(device, &about) && S_ISREG(about.st_mode);
 }
 
+/* What the disk took of a write to a file. */
+static ssize_t taken_by_disk(ssize_t taken) {
+    page->disk -= taken > 0 ? taken : 0;
+    return taken;
+}
+
+static ssize_t no_space(void) {
+    errno = ENOSPC;
+    return -1;
+}
+
 /* A write to a file, of which the disk takes what there is space for. */
 static ssize_t write_file(int file, const void *bytes, size_t count) {
     count = least(count, page->disk - 1);
-    if (count == 0) {
-        errno = ENOSPC;
+    return count ? taken_by_disk(syscall(SYS_write, file, bytes, count)) : no_space();
+}
+
+/* The same at an offset. */
+ssize_t pwrite64(int file, const void *bytes, size_t count, off64_t at) {
+    if (count == 0 || !is_file(file))
+        return syscall(SYS_pwrite64, file, bytes, count, at);
+    count = least(count, page->disk - 1);
+    return count ? taken_by_disk(syscall(SYS_pwrite64, file, bytes, count, at)) : no_space();
+}
+
+ssize_t pwrite(int file, const void *bytes, size_t count, off_t at) { return pwrite64(file, bytes, count, at); }
+
+int fsync(int file) {
+    if (page && page->unstored) {
+        errno = EIO;
         return -1;
     }
-    ssize_t taken = syscall(SYS_write, file, bytes, count);
-    page->disk -= taken > 0 ? taken : 0;
-    return taken;
+    return syscall(SYS_fsync, file);
 }
 
 /* Whether calls of a socket never wait. Then EAGAIN promises to tell when it is ready, and no write takes nothing: neither is

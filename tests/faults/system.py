@@ -20,7 +20,7 @@ from tests.sockets.wire import Peer
 # steady clock stood, and the options of the socket that was read last.
 ODDS = ("growth", "cut_read", "failed_read", "cut_write", "failed_write", "accept", "thread", "clock", "sleep")
 NUMBERS = (*ODDS, "most", "growth_at", "read_at", "room", "calm", "thread_at", "haste", "kept", "disk", "wall",
-           "stopped", "pace")
+           "stopped", "pace", "unstored")
 WAYS = ("reads", "writes")
 SEEN = ("polls", "rests", "keeps_alive", "user_time_out", "no_delay")
 PAGE = struct.Struct(f"={len(NUMBERS) + len(ODDS) + len(WAYS) + len(SEEN)}I")

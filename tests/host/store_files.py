@@ -9,7 +9,7 @@ import unittest
 
 from tests import left_out
 from tests.cases import Case, SideBySide
-from tests.faults.system import InSystems
+from tests.faults.system import InSystems, System
 from tests.host.files import bounded
 from tests.host.options import only
 from tests.host.stored import Start, StoreCase, StoreHost, account_file
@@ -208,8 +208,8 @@ class Disks(StoreCase):
 
     def fill(self, host: StoreHost, asked: Asked, told: Told) -> None:
         """A client puts one item after another, as long as the host answers."""
-        with contextlib.suppress(ConnectionError), host.greeted(1) as peer:
-            keys = [Key(7, 1, 1, number) for number in range(1, 1 + ITEMS)]
+        with contextlib.suppress(ConnectionError), host.connect() as peer:
+            keys = [Key(7, 1, 1, number) for number in range(1 + len(told), 1 + ITEMS)]
             asked.update((key, give("put", ITEM)) for key in keys)
             for key in keys:
                 peer.send(frame(request(key, asked[key])))
@@ -220,7 +220,7 @@ class Disks(StoreCase):
                 told.append((key, {"reply": "done"}))
 
     def judge(self, host: StoreHost, why: str, asked: Asked, told: Told) -> None:
-        """It has ended by this line. The next start goes on behind all that was answered."""
+        """It has ended by this line. The next start, with nothing in its way, goes on behind all that was answered."""
         status, last = host.status(), host.said.decode().splitlines()[-1]
         line = f"rv host ends: {host.file}: a write to the device failed after 0 bytes: {why}"
         self.check("its end", status == 1 and line in last, f"status {status}, and it says {last!r}")
@@ -241,8 +241,28 @@ class Disks(StoreCase):
         self.store.mkdir()
         account_file(self.store, 7).write_bytes(FORMAT + HEAD_OF_7 + ROOM)
         with self.host(preexec_fn=lambda: bounded(FULL)) as host:
+            host.greeted(1).close()
             self.fill(host, asked, told)
             self.judge(host, "File too large", asked, told)
+
+    def test_a_full_disk(self) -> None:
+        """A disk that takes a piece of the next lines, or stores none of them, ends a host by a line."""
+        whole = "No space left on device"
+        for name, numbers, why in (("no byte", {"disk": 1}, whole), ("some bytes", {"disk": 30}, whole),
+                                   ("some lines", {"disk": 2_000}, whole), ("nothing stored", {"unstored": 1}, "Input/output error")):
+            system = System()
+            asked: Asked = {}
+            told: Told = []
+            self.store = self.folder / name
+            with self.subTest(name), self.host("--epoch", "7", env=system.env) as host:
+                with host.greeted(1) as peer:
+                    key = Key(7, 1, 1, 1)
+                    asked[key] = give("put", ITEM)
+                    peer.expect(request(key, asked[key]), replied(key, reply="done"))
+                    told.append((key, {"reply": "done"}))
+                system.be(**numbers)
+                self.fill(host, asked, told)
+                self.judge(host, why, asked, told)
 
     def test_no_room_to_begin(self) -> None:
         """Under a bound below a new journal's length no account is begun, and the folder is named."""
