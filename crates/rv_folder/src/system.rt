@@ -117,12 +117,22 @@ pub fn present_account(rt: &HostRuntime, path: &str) -> io::Result<Option<String
     Ok(greatest_path(rt.alloc(), path, &epochs)?)
 }
 
-// Makes a folder, if it isn't there.
+// Makes a folder, if it isn't there, and stores its name in its parent: also where it is there, since a start
+// that made it may have been killed before that. A parent that can't be opened is no fault then.
 fn make_folder(rt: &HostRuntime, path: &str) -> io::Result<()> {
-    match DirBuilder::new().mode(FOLDER_MODE).create(rt, path) {
+    let made = DirBuilder::new().mode(FOLDER_MODE).create(rt, path);
+    let stored = store_name(rt, path);
+    match made {
         Err(why) if why.kind() == ErrorKind::AlreadyExists => Ok(()),
-        made => made,
+        Err(why) => Err(why),
+        Ok(()) => stored,
     }
+}
+
+// Stores the name of a folder in its parent.
+fn store_name(rt: &HostRuntime, path: &str) -> io::Result<()> {
+    let parent = format!(in rt.alloc(); "{path}/..")?;
+    File::open(rt, parent.as_str()).and_then(|folder| folder.sync_all())
 }
 
 // The lock of a folder: whoever holds it has the folder.
