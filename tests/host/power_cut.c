@@ -1,6 +1,7 @@
 /* Loaded before a program, keeps what it asks of the disk in the file CUT_LOG, so that a test can leave what a cut of the power
    might have. A record is its kind, the number of a file or folder, an offset, a count, and so many bytes:
 
+   m  a folder was made
    o  a file was opened that is made where there is none; the bytes are its path
    w  bytes are to be written at the offset
    s  what was written to the file, or named in the folder, was stored
@@ -91,6 +92,13 @@ static int stored(int device, int failed) {
 int fsync(int device) { return stored(device, syscall(SYS_fsync, device)); }
 
 int fdatasync(int device) { return stored(device, syscall(SYS_fdatasync, device)); }
+
+int mkdir(const char *path, mode_t mode) {
+    int failed = syscall(SYS_mkdir, path, mode);
+    if (!failed)
+        keep('m', 0, 0, path, strlen(path));
+    return failed;
+}
 
 int rename(const char *old, const char *new) {
     char both[8192];

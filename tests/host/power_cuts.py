@@ -6,6 +6,7 @@ from __future__ import annotations
 import os
 import pathlib
 import random
+import shutil
 import signal
 import struct
 import subprocess
@@ -27,7 +28,7 @@ LIBRARY = SOURCE.parents[2] / "out/power_cut.so"
 CUTS, STARTS = 20, 10
 # How often a start asks something of the disk where it begins an account; less where it goes on. A crowd's host is killed when it
 # has asked so often more, at most.
-BEGINS, LATER = 8, 5
+BEGINS, LATER = 9, 5
 # The head of a record: its kind, a file's number, an offset, and how many bytes come behind it.
 HEAD = struct.Struct("=4Q")
 # What a cut leaves of a write; of bytes one by one, and of so many at a time.
@@ -101,12 +102,11 @@ class File:
 
 
 class Disk:
-    """The folder of a store on a disk whose power is cut. All that it has at first is stored."""
+    """The folder of a store on a disk whose power is cut. All that it has at first is stored; it may not be there yet."""
 
     def __init__(self, store: pathlib.Path, log: pathlib.Path):
         self.store, self.log = store, log
         self.env = {**os.environ, "LD_PRELOAD": str(LIBRARY), "CUT_LOG": str(log)}
-        store.mkdir(exist_ok=True)
         self.begin()
 
     def env_at(self, number: int) -> dict[str, str]:
@@ -116,7 +116,8 @@ class Disk:
     def begin(self) -> None:
         """What is there now is stored."""
         self.log.write_bytes(b"")
-        paths = [path for path in self.store.iterdir() if path.name != "lock"]
+        self.is_stored = True
+        paths = [path for path in self.store.iterdir() if path.name != "lock"] if self.store.exists() else []
         self.files = {path.stat().st_ino: File(path.read_bytes()) for path in paths}
         self.names = {path.name: path.stat().st_ino for path in paths}
         # the names as they were asked for since they were stored, one more each time
@@ -126,6 +127,10 @@ class Disk:
         """Leaves what might be there after a cut now; whether something is lost that was asked for."""
         for asked in asked_of(self.log.read_bytes()):
             self.take(asked)
+        if not self.is_stored:
+            shutil.rmtree(self.store)
+            self.begin()
+            return True
         names = chance.choice([self.named[0], self.named[-1], chance.choice(self.named)])
         left = {name: self.files[number].left(chance, chance.choice(LEFT)) for name, number in names.items()}
         whole = {name: self.files[number].left(chance, "all") for name, number in self.named[-1].items()}
@@ -142,6 +147,10 @@ class Disk:
         names = dict(self.named[-1])
         if asked.kind == "w":
             self.files[asked.number].writes.append(asked)
+        elif asked.kind == "m":
+            self.is_stored = False
+        elif asked.kind == "s" and asked.number == self.store.parent.stat().st_ino:
+            self.is_stored = True
         elif asked.kind == "s" and asked.number == self.store.stat().st_ino:
             self.named = [names]
         elif asked.kind == "s":
@@ -164,6 +173,7 @@ class PowerCuts(StoreCase):
     def setUp(self) -> None:
         super().setUp()
         preload.built(SOURCE, LIBRARY)
+        self.store.mkdir()
         self.disk = Disk(self.store, self.folder / "log")
 
     def test_many_cuts(self) -> None:
@@ -192,12 +202,24 @@ class PowerCuts(StoreCase):
             with self.host(env=self.disk.env) as host:
                 self.goes_on(host, epoch - 1)
             if epoch % 4:
-                self.stopped(chance, epoch)
+                self.ends_at(chance.randint(1, BEGINS - 1), epoch)
                 lost += self.disk.cut(chance)
                 with self.host(env=self.disk.env) as host:
                     demand(host.start in (Start(epoch - 1, 2), Start(epoch, 0)), f"after a start of {epoch} it has {host.start}")
             self.answered(epoch)
         self.told = f"{lost} cuts lost what was not stored"
+
+    def test_a_new_folder(self) -> None:
+        """Where a client was welcome the folder is there that the start made, or one before that was killed behind this."""
+        for name, is_killed in (("made", False), ("found", True)):
+            self.store = self.folder / name
+            self.disk = Disk(self.store, self.folder / f"log of {name}")
+            if is_killed:
+                self.ends_at(1, 7)
+            self.answered(7)
+            self.disk.cut(random.Random(name))
+            with self.subTest(name), self.host(env=self.disk.env) as host:
+                self.goes_on(host, 7)
 
     def answered(self, epoch: int) -> None:
         """A client is told that its put is done in this epoch, and then the host is killed."""
@@ -213,10 +235,10 @@ class PowerCuts(StoreCase):
             key = Key(epoch, 1, 1, 1)
             peer.expect(request(key, give("put", f"item {epoch}")), replied(key, reply="done"))
 
-    def stopped(self, chance: random.Random, epoch: int) -> None:
-        """A host is killed while it begins this epoch."""
+    def ends_at(self, number: int, epoch: int) -> None:
+        """A host is killed while it begins this epoch, once it has asked so often."""
         words = [self.program, "host", "--listen", "127.0.0.1:0", "--store", str(self.store), "--epoch", str(epoch)]
-        ran = subprocess.run(words, env=self.disk.env_at(chance.randint(1, BEGINS)), capture_output=True, timeout=PATIENCE)
+        ran = subprocess.run(words, env=self.disk.env_at(number), capture_output=True, timeout=PATIENCE)
         demand(ran.returncode == -signal.SIGKILL, f"a start that is to be killed: {ran}")
 
 
