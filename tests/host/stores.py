@@ -30,7 +30,7 @@ REQUESTS, KILLED = 50, 8
 CLIENTS = (1, 2, 3)
 # The clients of a crowd, how many crowds the gate tries, and how often each one's host is killed at most: behind fewer further
 # replies than these, or behind so many seconds, where all wait.
-CROWD, CROWDS, KILLS, REPLIES, LONGEST = 6, 3, 20, 9, 0.4
+CROWD, CROWDS, KILLS, REPLIES, LONGEST = 6, 2, 20, 9, 0.4
 # How much later at most, in seconds.
 LATER = 0.01
 # What a wall clock jumps by, in seconds, and a wait in between, in milliseconds.
