@@ -148,7 +148,8 @@ impl<D: Device> DiskJournal<D> {
         }
     }
 
-    /// Adds a piece: bytes without zero. Once it has returned, the piece is stored.
+    /// Adds a piece: bytes without zero. Once it has returned, the piece is stored. One of no bytes asks
+    /// nothing of the device.
     ///
     /// [`JournalFault`] says why it is refused, and whether the journal goes on; its text is as it was. A
     /// crash at any moment of the call leaves the text and a front of the piece.
@@ -215,6 +216,9 @@ impl<D: Device> Parts<D> {
         }
         if !is_text(piece) {
             return Err(JournalFault::NotText);
+        }
+        if piece.is_empty() {
+            return Ok(());
         }
         match self.file.store(piece) {
             Ok(()) => Ok(()),

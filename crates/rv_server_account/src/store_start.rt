@@ -106,8 +106,7 @@ pub fn enter<'a>(
 fn told(rt: &HostRuntime, folder: &SystemFolder<'_>, path: &str, why: EnterFault) -> KeepFault {
     let last = io::Error::from_raw_os_error(errno());
     match why {
-        EnterFault::NoMemory
-        | EnterFault::Present(PresentFault::Folder(DeviceFault::NoMemory))
+        EnterFault::Present(PresentFault::Folder(DeviceFault::NoMemory))
         | EnterFault::Begin(BeginFault::Folder(DeviceFault::NoMemory))
         | EnterFault::Begin(BeginFault::Journal(CreateFault::Device(DeviceFault::NoMemory))) => {
             KeepFault::NoMemory

@@ -7,6 +7,7 @@ ghost use Rattle.rv_folder.specs.Present.{IsPresent};
 ghost use Rattle.rv_journal.specs.declared.device.DeviceFault.TheVariants.{Failed};
 ghost use Rattle.rv_machine.specs.Machines.{state_in};
 ghost use Rattle.rv_rules.specs.Steps.{capped_moment};
+ghost use Rattle.rv_state.specs.State.{opening};
 ghost use Rattle.rv_state.specs.resume.Resuming.{CanResume};
 ghost use Rattle.rv_store.specs.Entered.{AreEpochs, BeginsIn, EntersBy, IsChosen, IsStored};
 ghost use Rattle.rv_store.specs.Epochs.{HasNoChoice};
@@ -22,7 +23,6 @@ use crate::wish::{EpochChoice, EpochWish};
 use rv_folder::{BeginFault, Folder, present_epoch};
 use rv_journal::{Device, DeviceFault};
 use rv_machine::Machine;
-use rv_text::NoMemory;
 use std::alloc::Global;
 
 // The greatest moment of an account.
@@ -46,8 +46,6 @@ pub enum EnterFault {
     NoEpoch(Option<u64>),
     /// A new account was not begun: all others are as they were.
     Begin(BeginFault),
-    /// Memory was refused. Nothing changed.
-    NoMemory,
 }
 
 impl From<DeviceFault> for EnterFault {
@@ -58,27 +56,13 @@ impl From<DeviceFault> for EnterFault {
     }
 }
 
-impl From<PresentFault> for EnterFault {
-    ghost from_gives = { λ fault told. told ≡ OfEntry.Present fault };
-
-    fn from(fault: PresentFault) -> EnterFault {
-        EnterFault::Present(fault)
-    }
-}
-
-impl From<BeginFault> for EnterFault {
-    ghost from_gives = { λ fault told. told ≡ OfEntry.Begin fault };
-
-    fn from(fault: BeginFault) -> EnterFault {
-        EnterFault::Begin(fault)
-    }
-}
-
-impl From<NoMemory> for EnterFault {
-    ghost from_gives = { λ _ told. told ≡ OfEntry.NoMemory };
-
-    fn from(_refused: NoMemory) -> EnterFault {
-        EnterFault::NoMemory
+// The machine of a new epoch's account.
+fn open_machine(alloc: Global, epoch: u64, opened: u64) -> Result<Machine, BeginFault>
+    ensures { IfOk result (λ machine. state_in machine ≡ opening epoch (capped_moment opened)) }
+{
+    match Machine::open(alloc, epoch, opened) {
+        Ok(machine) => Ok(machine),
+        Err(_) => Err(BeginFault::Folder(DeviceFault::NoMemory)),
     }
 }
 
@@ -88,7 +72,7 @@ fn begin<F: Folder>(
     folder: &mut F,
     epoch: u64,
     opened: u64,
-) -> Result<StoredAccount<F::File>, EnterFault>
+) -> Result<StoredAccount<F::File>, BeginFault>
     requires epoch { FitsIdentifier epoch }
     requires moment { opened ≤ max_moment }
     ensures begins { IfOk result (λ stored. WhereNamed F.directory folder.old
@@ -100,7 +84,7 @@ fn begin<F: Folder>(
     ensures tells { IfOk result (λ stored.
         F.File.disk.tells (journal_of stored.journal).device ≡ F.directory.tells folder.old) }
 {
-    let machine = Machine::open(alloc, epoch, opened)?;
+    let machine = open_machine(alloc, epoch, opened)?;
     let journal = begin_account(alloc, folder, epoch, opened)?;
     Ok(StoredAccount { journal, machine })
 }
@@ -134,13 +118,21 @@ pub fn enter_store<F: Folder>(
     ensures same { (present : Option ℕ) → result ≡ Err (OfEntry.NoEpoch present)
         → KeepsNames F.directory folder.old folder.new }
 {
+    folder.sync()?;
     let present = present_epoch(alloc, folder)?;
     let Some(choice) = wish.choose(present, now) else {
         return Err(EnterFault::NoEpoch(present));
     };
-    let account = match choice {
-        EpochChoice::GoesOn(epoch) => open_epoch(alloc, folder, epoch)?,
-        EpochChoice::Begins(epoch) => begin(alloc, folder, epoch, now.min(MOST_MOMENT))?,
-    };
-    Ok(EnteredStore { account, choice })
+    match choice {
+        EpochChoice::GoesOn(epoch) => match open_epoch(alloc, folder, epoch) {
+            Ok(account) => Ok(EnteredStore { account, choice }),
+            Err(why) => Err(EnterFault::Present(why)),
+        },
+        EpochChoice::Begins(epoch) => {
+            match begin(alloc, folder, epoch, now.min(MOST_MOMENT)) {
+                Ok(account) => Ok(EnteredStore { account, choice }),
+                Err(why) => Err(EnterFault::Begin(why)),
+            }
+        }
+    }
 }

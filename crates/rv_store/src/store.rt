@@ -9,6 +9,7 @@ ghost use Rattle.rv_journal.specs.declared.device.DeviceFault.TheVariants.{Faile
 ghost use Rattle.rv_journal.specs.declared.fault.OpenFault.{OpenFault};
 ghost use Rattle.rv_machine.specs.Machines.{state_in};
 ghost use Rattle.rv_state.specs.resume.Resuming.{CanResume};
+ghost use Rattle.rv_store.specs.Entered.{IsStored};
 ghost use Rattle.rv_store.specs.Format.{first_text};
 ghost use Rattle.rv_store.specs.Lasting.{fault_of, journal_of};
 ghost use Rattle.rv_store.specs.Store.{FailsPresent, OpensPresent};
@@ -82,7 +83,7 @@ pub fn begin_account<F: Folder>(
     Ok(AccountJournal::new(journal))
 }
 
-// Opens the account of the present epoch. The folder is synced first.
+// Opens the account of the present epoch, in a folder whose names are stored.
 pub(crate) fn open_epoch<F: Folder>(
     alloc: Global,
     folder: &mut F,
@@ -90,10 +91,14 @@ pub(crate) fn open_epoch<F: Folder>(
 ) -> Result<StoredAccount<F::File>, PresentFault>
     requires present { WhereNamed F.directory folder.old
         (IsPresent (F.directory.seen folder.old) (Some epoch)) }
+    requires names { WhereNamed F.directory folder.old ((names : FileNames)
+        → F.directory.may_leave folder.old names → SameNames names (F.directory.seen folder.old)) }
     ensures opened { IfOk result (λ stored. WhereNamed F.directory folder.old
         (OpensPresent F.directory F.File.disk folder.old stored)) }
     ensures epoch { IfOk result (λ stored. WhereNamed F.directory folder.old
         ((state_in stored.machine).epoch ≡ epoch)) }
+    ensures stored { IfOk result (λ stored. WhereNamed F.directory folder.old
+        (IsStored F.File.disk stored)) }
     ensures resumes { IfOk result (λ stored. CanResume (state_in stored.machine)) }
     ensures works { IfOk result (λ stored. fault_of stored.journal ≡ None) }
     ensures tells { IfOk result (λ stored.
@@ -105,7 +110,6 @@ pub(crate) fn open_epoch<F: Folder>(
         (FailsPresent F.directory F.File.disk folder.old other fault) }
     ensures cause { result ≡ Err (OfStore.Folder Failed) → F.directory.failed folder.new ≡ true }
 {
-    folder.sync()?;
     let file = folder.open_file(FileName::Account(epoch))?;
     match open_account(alloc, file, epoch) {
         Ok(stored) => Ok(stored),
@@ -135,8 +139,12 @@ pub fn open_present<F: Folder>(
         (FailsPresent F.directory F.File.disk folder.old epoch fault) }
     ensures cause { result ≡ Err (OfStore.Folder Failed) → F.directory.failed folder.new ≡ true }
 {
+    folder.sync()?;
     let Some(epoch) = present_epoch(alloc, folder)? else {
         return Ok(None);
     };
-    Ok(Some(open_epoch(alloc, folder, epoch)?))
+    match open_epoch(alloc, folder, epoch) {
+        Ok(stored) => Ok(Some(stored)),
+        Err(why) => Err(why),
+    }
 }

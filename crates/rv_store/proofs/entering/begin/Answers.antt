@@ -7,8 +7,8 @@ pub returns-clause-stored : goal.returns-clause-stored
 returns-clause-stored g c = λ tells. stored_new c.args.epoch c.args.opened c.requires.epoch c.requires.moment
     g.F.File.Device.disk
     (record { journal = c.in_ok-journal.journal; machine = c.in_ok-machine.machine })
-    c.in_ok-machine.ensures.state (c.in_ok-journal.ensures.text tells) (c.in_ok-journal.ensures.durable tells)
+    c.in_ok-machine.ensures (c.in_ok-journal.ensures.text tells) (c.in_ok-journal.ensures.durable tells)
 
 pub returns-clause-resumes : goal.returns-clause-resumes
 returns-clause-resumes g c = resumes_new c.args.epoch c.args.opened c.requires.epoch c.requires.moment
-    (state_in c.in_ok-machine.machine) c.in_ok-machine.ensures.state
+    (state_in c.in_ok-machine.machine) c.in_ok-machine.ensures

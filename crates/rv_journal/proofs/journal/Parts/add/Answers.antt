@@ -1,5 +1,7 @@
-use Rattle.std.proofs.Common.{ℕ, take, Err, refl, sym, ◌∙◌, ap, arith}
-use Rattle.std.proofs.lemmas.Bool.{false≢true}
+use Rattle.std.proofs.Common.{ℕ, take, Err, List, append-nil, length, refl, sym, ◌++◌, ◌∙◌, ap, arith}
+use Rattle.std.proofs.lemmas.Bool.{eqb-true, false≢true}
+use Rattle.std.proofs.lemmas.List.{nil_from_length}
+use Rattle.rv_journal.specs.Filled.{file_text}
 use Rattle.rv_journal.specs.Text.{before_zero}
 use Rattle.rv_journal.proofs.Adding.{at_rest, text_is}
 use Rattle.rv_journal.specs.declared.filled.StoreFault.TheVariants as OfStore
@@ -138,3 +140,28 @@ returns-in-Err-Full-clause-same g c failed = absurd (false≢true (sym c.if-self
 
 pub returns-in-Err-Device-clause-same : goal.returns-in-Err-Device-clause-same
 returns-in-Err-Device-clause-same g c failed = absurd (false≢true (sym c.if-self.false ∙ failed))
+
+pub returns-then-is_empty-clause-stored : goal.returns-then-is_empty-clause-stored
+returns-then-is_empty-clause-stored g c = record {
+  works = c.if-self.false;
+  text = λ told. sym (append-nil (file_text g.D.Device.disk c.args.self.now.file))
+      ∙ ap (λ (l : List ℕ). file_text g.D.Device.disk c.args.self.now.file ++ l)
+      (sym (nil_from_length c.args.piece.now (eqb-true (length c.args.piece.now) 0
+      (sym c.is_empty.ensures ∙ c.if-is_empty.true))));
+  durable = λ told f left.
+      let is = (c.requires c.if-self.false).filled told in
+      ap before_zero (is.durable f left) ∙ text_is g.D.Device.disk c.args.self.now.file is;
+}
+
+pub returns-then-is_empty-clause-any_moment : goal.returns-then-is_empty-clause-any_moment
+returns-then-is_empty-clause-any_moment g c works told = at_rest g.D.Device.disk c.args.self.now.file
+    c.args.piece.now ((c.requires works).filled told)
+
+pub returns-then-is_empty-clause-refused : goal.returns-then-is_empty-clause-refused
+returns-then-is_empty-clause-refused g c = (
+  λ is. absurd (omega (arith, ap add_number is)),
+  λ failed. absurd (false≢true (sym c.if-self.false ∙ failed)),
+)
+
+pub returns-then-is_empty-clause-same : goal.returns-then-is_empty-clause-same
+returns-then-is_empty-clause-same g c failed = absurd (false≢true (sym c.if-self.false ∙ failed))
