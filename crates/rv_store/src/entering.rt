@@ -118,7 +118,6 @@ pub fn enter_store<F: Folder>(
     ensures same { (present : Option ℕ) → result ≡ Err (OfEntry.NoEpoch present)
         → KeepsNames F.directory folder.old folder.new }
 {
-    folder.sync()?;
     let present = present_epoch(alloc, folder)?;
     let Some(choice) = wish.choose(present, now) else {
         return Err(EnterFault::NoEpoch(present));

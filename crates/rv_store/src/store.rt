@@ -83,7 +83,7 @@ pub fn begin_account<F: Folder>(
     Ok(AccountJournal::new(journal))
 }
 
-// Opens the account of the present epoch, in a folder whose names are stored.
+// Opens the account of the present epoch. The folder is synced first.
 pub(crate) fn open_epoch<F: Folder>(
     alloc: Global,
     folder: &mut F,
@@ -91,8 +91,6 @@ pub(crate) fn open_epoch<F: Folder>(
 ) -> Result<StoredAccount<F::File>, PresentFault>
     requires present { WhereNamed F.directory folder.old
         (IsPresent (F.directory.seen folder.old) (Some epoch)) }
-    requires names { WhereNamed F.directory folder.old ((names : FileNames)
-        → F.directory.may_leave folder.old names → SameNames names (F.directory.seen folder.old)) }
     ensures opened { IfOk result (λ stored. WhereNamed F.directory folder.old
         (OpensPresent F.directory F.File.disk folder.old stored)) }
     ensures epoch { IfOk result (λ stored. WhereNamed F.directory folder.old
@@ -110,6 +108,7 @@ pub(crate) fn open_epoch<F: Folder>(
         (FailsPresent F.directory F.File.disk folder.old other fault) }
     ensures cause { result ≡ Err (OfStore.Folder Failed) → F.directory.failed folder.new ≡ true }
 {
+    folder.sync()?;
     let file = folder.open_file(FileName::Account(epoch))?;
     match open_account(alloc, file, epoch) {
         Ok(stored) => Ok(stored),
