@@ -2,6 +2,7 @@
 mod Begun
 mod Formats
 mod Fronts
+mod KeptNames
 mod Nearest
 mod NewAccount
 mod ReadOn
