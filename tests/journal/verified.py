@@ -159,7 +159,8 @@ class Verified(Case):
     def test_none(self) -> None:
         """A folder without an account, and paths where no folder is."""
         self.store.mkdir()
-        for name, files in (("no file", []), ("no epoch's file", ["lock", "unready.account", "epoch-01.account"])):
+        others: dict[str, list[str]] = {"no file": [], "no epoch's file": ["lock", "unready.account", "epoch-01.account"]}
+        for name, files in others.items():
             for file in files:
                 (self.store / file).write_bytes(b"")
             told = "", f"account {self.store}: no epoch has an account\n", 1
