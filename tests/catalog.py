@@ -36,6 +36,7 @@ MODULES = [
     "host.stores",
     "host.store_files",
     "host.power_cuts",
+    "host.unsynced",
     "faults.devices",
     "faults.growths",
     "faults.torture",

@@ -3,11 +3,13 @@
 
    m  a folder was made
    o  a file was opened that is made where there is none; the bytes are its path
+   t  a file was emptied as it was opened
    w  bytes are to be written at the offset
    s  what was written to the file, or named in the folder, was stored
    r  a file is to be renamed; the bytes are the old path, a zero and the new one
+   u  a name is to be removed; the bytes are its path
 
-   A write and a rename are kept before they are done, and the others after that: who is killed in between may have done it or not.
+   A write, a rename and a removal are kept before they are done, and the others after that: who is killed in between may have done it or not.
    The program is killed once it has asked so often as CUT_AT says, if that is set. */
 #define _GNU_SOURCE
 #include <errno.h>
@@ -48,6 +50,8 @@ static int opened(int folder, const char *path, int flags, mode_t mode) {
     int device = syscall(SYS_openat, folder, path, flags, mode);
     if (device >= 0 && flags & O_CREAT)
         keep('o', number_of(device), 0, path, strlen(path));
+    if (device >= 0 && flags & O_TRUNC)
+        keep('t', number_of(device), 0, "", 0);
     return device;
 }
 
@@ -83,6 +87,14 @@ ssize_t pwrite64(int device, const void *bytes, size_t count, off64_t at) {
 
 ssize_t pwrite(int device, const void *bytes, size_t count, off_t at) { return pwrite64(device, bytes, count, at); }
 
+/* A write at the file's own offset; what isn't a file, as a socket or a stream, is passed over. */
+ssize_t write(int device, const void *bytes, size_t count) {
+    struct stat about;
+    if (device > STDERR_FILENO && !fstat(device, &about) && S_ISREG(about.st_mode))
+        keep('w', about.st_ino, lseek(device, 0, SEEK_CUR), bytes, count);
+    return syscall(SYS_write, device, bytes, count);
+}
+
 static int stored(int device, int failed) {
     if (!failed)
         keep('s', number_of(device), 0, "", 0);
@@ -111,6 +123,11 @@ int rename(const char *old, const char *new) {
     memcpy(both + first, new, second);
     keep('r', 0, 0, both, first + second);
     return syscall(SYS_rename, old, new);
+}
+
+int unlink(const char *path) {
+    keep('u', 0, 0, path, strlen(path));
+    return syscall(SYS_unlink, path);
 }
 
 __attribute__((constructor)) static void set_up(void) {

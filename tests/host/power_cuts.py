@@ -156,6 +156,11 @@ class Disk:
         elif asked.kind == "s":
             self.files[asked.number].store()
             self.files[asked.number].writes.clear()
+        elif asked.kind == "t":
+            self.files[asked.number] = File()
+        elif asked.kind == "u":
+            del names[pathlib.PurePath(asked.bytes.decode()).name]
+            self.named.append(names)
         else:
             old, _, new = (pathlib.PurePath(part).name for part in asked.bytes.decode().partition("\0"))
             if asked.kind == "r":
@@ -163,6 +168,13 @@ class Disk:
             elif old not in names and old != "lock":
                 self.files[asked.number] = File()
                 self.named.append({**names, old: asked.number})
+
+
+def killed_start(program: str, disk: Disk, number: int, *options: str) -> None:
+    """A host with these options is killed while it starts, once it has asked so often of the disk."""
+    words = [program, "host", "--listen", "127.0.0.1:0", "--store", str(disk.store), *options]
+    ran = subprocess.run(words, env=disk.env_at(number), capture_output=True, timeout=PATIENCE)
+    demand(ran.returncode == -signal.SIGKILL, f"a start that is to be killed: {ran}")
 
 
 class PowerCuts(StoreCase):
@@ -202,7 +214,7 @@ class PowerCuts(StoreCase):
             with self.host(env=self.disk.env) as host:
                 self.goes_on(host, epoch - 1)
             if epoch % 4:
-                self.ends_at(chance.randint(1, BEGINS - 1), epoch)
+                killed_start(self.program, self.disk, chance.randint(1, BEGINS - 1), "--epoch", str(epoch))
                 lost += self.disk.cut(chance)
                 with self.host(env=self.disk.env) as host:
                     demand(host.start in (Start(epoch - 1, 2), Start(epoch, 0)), f"after a start of {epoch} it has {host.start}")
@@ -215,7 +227,7 @@ class PowerCuts(StoreCase):
             self.store = self.folder / name
             self.disk = Disk(self.store, self.folder / f"log of {name}")
             if is_killed:
-                self.ends_at(1, 7)
+                killed_start(self.program, self.disk, 1, "--epoch", "7")
             self.answered(7)
             self.disk.cut(random.Random(name))
             with self.subTest(name), self.host(env=self.disk.env) as host:
@@ -234,12 +246,6 @@ class PowerCuts(StoreCase):
         with host.connect() as peer:
             key = Key(epoch, 1, 1, 1)
             peer.expect(request(key, give("put", f"item {epoch}")), replied(key, reply="done"))
-
-    def ends_at(self, number: int, epoch: int) -> None:
-        """A host is killed while it begins this epoch, once it has asked so often."""
-        words = [self.program, "host", "--listen", "127.0.0.1:0", "--store", str(self.store), "--epoch", str(epoch)]
-        ran = subprocess.run(words, env=self.disk.env_at(number), capture_output=True, timeout=PATIENCE)
-        demand(ran.returncode == -signal.SIGKILL, f"a start that is to be killed: {ran}")
 
 
 def load_tests(loader: unittest.TestLoader, _: unittest.TestSuite, __: str | None) -> unittest.TestSuite:

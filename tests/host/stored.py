@@ -19,14 +19,16 @@ from tests.sockets.programs import TRIES, Process
 from tests.sockets.wire import PATIENCE, Peer, Wrong, demand, until
 
 # The line by which it tells with which account it starts.
-STORE = re.compile(rb"store: (.+)/epoch-(\d+)\.account (?:goes on after (\d+) entries|(begins))\n")
+STORE = re.compile(rb"store: (.+)/epoch-(\d+)\.account (?:goes on after (\d+) entries|begins(?:: (.+))?)\n")
 
 
 class Start(NamedTuple):
-    """With which epoch a host starts, and after how many entries its account goes on: None where it begins."""
+    """With which epoch a host starts, and after how many entries its account goes on: None where it begins, by its own choice or for
+    a reason that it tells."""
 
     epoch: int
     entries: int | None
+    why: str | None = None
 
 
 class StoreHost(Host):
@@ -49,7 +51,7 @@ class StoreHost(Host):
         if found is None or found[1] != bytes(self.store):
             raise Wrong(f"a host that is to keep {self.store} says {self.said!r}")
         self.epoch = int(found[2])
-        return Start(self.epoch, None if found[4] else int(found[3]))
+        return Start(self.epoch, int(found[3]) if found[3] else None, found[4].decode() if found[4] else None)
 
     def start_again(self, between: Callable[[], object] | None = None) -> None:
         """Kills it, if it runs, and starts it anew at its address, behind what is done between."""

@@ -1,5 +1,5 @@
 //! The start of a server: its address, its account, its limits, and the lines that report them.
-ghost use Rattle.std.specs.Prelude.{◌≡◌, ◌≤◌, ◌↔◌, IfOk, IsSome, IsTrue};
+ghost use Rattle.std.specs.Prelude.{◌≡◌, ◌≤◌, ◌↔◌, IfOk, IsSome, IsTrue, false};
 ghost use Rattle.rv_engine.specs.Engines.{engine_state};
 ghost use Rattle.rv_engine.specs.EngineRuns.{BeginsStored};
 ghost use Rattle.rv_host.specs.Turns.{HasItsAccount};
@@ -26,7 +26,9 @@ use rv_hub::DEFAULT_PATIENCE;
 use rv_log::{StartSaid, call_text, start_text};
 use rv_machine::Machine;
 use rv_rules::Limits;
-use rv_server_account::{AccountFile, Keeper, StoreAccount, StoreStart, begin_file, enter};
+use rv_server_account::{
+    AccountFile, Keeper, StoreAccount, StoreRules, StoreStart, begin_file, enter,
+};
 use rv_store::{EpochChoice, EpochWish};
 use rv_words::options::{HostOptions, VERSION};
 use std::alloc::AllocError;
@@ -100,8 +102,7 @@ pub(crate) fn begin_in_store<'a>(
 {
     let ground = ground_of(rt, options)?;
     let wall = wall_clock(rt);
-    let most = limit_of(RLIMIT_FSIZE, u64::MAX);
-    let start = enter(rt, folder, wish_of(options), most, wall)?;
+    let start = enter(rt, folder, rules_of(options), wall)?;
     let text = store_text(rt, &start)?;
     let descriptors = descriptors_of(options);
     let engine = engine_over(rt, options, start.machine, true, descriptors)?;
@@ -123,7 +124,10 @@ fn store_text(rt: &HostRuntime, start: &StoreStart<'_>) -> Result<String, AllocE
         EpochChoice::GoesOn(_) => {
             format!(in rt.alloc(); "store: {name} goes on after {entries} entries")
         }
-        EpochChoice::Begins(_) => format!(in rt.alloc(); "store: {name} begins"),
+        EpochChoice::Begins(_) => match start.why_new {
+            Some(why) => format!(in rt.alloc(); "store: {name} begins: {why}"),
+            None => format!(in rt.alloc(); "store: {name} begins"),
+        },
     }
 }
 
@@ -247,16 +251,23 @@ fn account_of(
     Ok(Some(begin_file(rt, path, epoch, limit_of(RLIMIT_FSIZE, u64::MAX))?))
 }
 
-// The epochs that the words allow.
-fn wish_of(options: &HostOptions<'_>) -> EpochWish
+// How the words want a store to be kept.
+fn rules_of<'a>(options: &HostOptions<'a>) -> StoreRules<'a>
     requires { FitOptions options.now }
-    ensures wish { result ≡ wish_of options.now }
-    ensures epochs { AreEpochs result }
+    ensures wish { result.epochs ≡ wish_of options.now }
+    ensures epochs { AreEpochs result.epochs }
+    ensures syncs { IsTrue result.syncs ↔ (options.now.no_sync ≡ false) }
+    ensures boot { result.boot ≡ options.now.boot }
 {
-    EpochWish {
-        least: options.epoch.least(),
-        most: options.epoch.most(),
-        is_new: options.new_epoch,
+    StoreRules {
+        epochs: EpochWish {
+            least: options.epoch.least(),
+            most: options.epoch.most(),
+            is_new: options.new_epoch,
+        },
+        syncs: !options.no_sync,
+        boot: options.boot,
+        most: limit_of(RLIMIT_FSIZE, u64::MAX),
     }
 }
 

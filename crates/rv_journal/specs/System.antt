@@ -11,6 +11,10 @@ has_fault file = is_some file.fault
 abbrev pub most_bytes : SystemFile → ℕ
 most_bytes file = file.most
 
+-- whether a sync asks the system to store it
+abbrev pub does_sync : SystemFile → Bool
+does_sync file = file.syncs
+
 -- it tells nothing, and a crash may leave anything
 abbrev pub system_disk : Disk SystemFile
 system_disk = record {

@@ -3,13 +3,15 @@
 ghost use Rattle.std.specs.Prelude.{◌≡◌, ◌+◌, ◌<◌, ◌≤◌, ◌^◌, ◌++◌, length, OnOk, OnErr};
 ghost use Rattle.std.specs.List.{All};
 ghost use Rattle.rv_journal.specs.Device.{HasCause, WhereTold};
-ghost use Rattle.std.specs.Prelude.{IfOk, IsErrOf, replicate, true};
+ghost use Rattle.std.specs.Prelude.{IfOk, IsErrOf, false, replicate, true};
 ghost use Rattle.rv_journal.specs.Filled.{AddsPiece, OnlyFills, KeepsFront, TakesPieces, ahead, file_text};
 ghost use Rattle.rv_journal.specs.declared.filled.StoreFault.TheVariants as OfStore;
 ghost use Rattle.rv_journal.specs.Faults.{store_failed};
+ghost use Rattle.rv_journal.specs.System.{does_sync};
 
 use crate::device::{Device, DeviceFault};
 use crate::rewriting::rewrite;
+use crate::system::SystemFile;
 use std::alloc::{AllocError, Global};
 
 // How many zeros are put ahead at once.
@@ -157,5 +159,18 @@ impl<D: Device> FilledFile<D> {
         self.make_room(piece.len())?;
         self.write_piece(piece)?;
         Ok(())
+    }
+}
+
+impl FilledFile<SystemFile> {
+    // Its pieces are with the system, and not stored.
+    pub(crate) fn stop_syncing(&mut self)
+        ensures stopped { does_sync self.new.device ≡ false }
+        ensures fault { self.new.device.fault ≡ self.old.device.fault }
+        ensures zeros { self.new.zeros ≡ self.old.zeros }
+        ensures end { self.new.end ≡ self.old.end }
+        ensures filled { self.new.filled ≡ self.old.filled }
+    {
+        self.device.stop_syncing();
     }
 }

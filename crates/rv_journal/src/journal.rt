@@ -12,6 +12,7 @@ ghost use Rattle.rv_journal.specs.Opened.{HasLines, HasLinesOf, IsLeftRefused, I
 ghost use Rattle.rv_journal.specs.Opened.{MakesOf, file_lines};
 ghost use Rattle.rv_journal.specs.Journal.{IsDurable, IsLive, KeepsText, Stores};
 ghost use Rattle.rv_journal.specs.Journal.{journal_text, journal_state};
+ghost use Rattle.rv_journal.specs.System.{does_sync};
 ghost use Rattle.rv_journal.specs.Faults.{IfRefused, append_failed, create_failed, ends_journal, open_failed};
 ghost use Rattle.rv_journal.specs.declared.fault.CreateFault.TheVariants as OfCreate;
 ghost use Rattle.rv_journal.specs.declared.fault.OpenFault.TheVariants.{NotFilled};
@@ -23,6 +24,7 @@ use crate::fault::{CreateFault, JournalFault, OpenFault};
 use crate::filled::{AHEAD, FilledFile, StoreFault, zeros};
 use crate::opening::reopen;
 use crate::reader::JournalReader;
+use crate::system::SystemFile;
 use std::alloc::Global;
 use std::marker::Model;
 
@@ -182,6 +184,19 @@ impl<D: Device> DiskJournal<D> {
         ensures { result ≡ self.device }
     {
         self.parts.file.into_device()
+    }
+}
+
+impl DiskJournal<SystemFile> {
+    /// A piece that is added from now on is with the system, and not stored: it outlives the process, and a
+    /// machine that dies may lose it, and bytes of what was there, as no device does that tells what it holds.
+    pub fn stop_syncing(&mut self)
+        ensures stopped { does_sync self.new.device ≡ false }
+        ensures fault { self.new.device.fault ≡ self.old.device.fault }
+        ensures end { self.new.end ≡ self.old.end }
+        ensures failed { self.new.failed ≡ self.old.failed }
+    {
+        self.parts.file.stop_syncing();
     }
 }
 

@@ -1,8 +1,8 @@
 //! A file of the system as a device, which tells nothing of what it holds.
-ghost use Rattle.std.specs.Prelude.{◌≡◌, ◌↔◌, ◌+◌, ◌<◌, ◌≤◌, Err, IsTrue, OnOk, false, length, option_map};
+ghost use Rattle.std.specs.Prelude.{◌≡◌, ◌↔◌, ◌+◌, ◌<◌, ◌≤◌, Err, IsTrue, Ok, OnOk, false, length, option_map};
 ghost use Rattle.std.specs.Prelude.{true};
-ghost use Rattle.rv_journal.specs.Device.{HasCause, Holds, WhereTold, WritesFile};
-ghost use Rattle.rv_journal.specs.System.{has_fault, most_bytes, system_disk};
+ghost use Rattle.rv_journal.specs.Device.{HasCause, Holds, KeepsFile, Only, WhereTold, WritesFile};
+ghost use Rattle.rv_journal.specs.System.{does_sync, has_fault, most_bytes, system_disk};
 ghost use Rattle.rv_journal.specs.declared.device.DeviceFault.TheVariants.{Failed};
 
 use crate::device::{Device, DeviceFault};
@@ -27,6 +27,7 @@ const TOO_LONG: i32 = 27;
 pub struct SystemFile {
     file: File,
     most: u64,
+    syncs: bool,
     fault: Option<io::Error>,
 }
 
@@ -35,12 +36,24 @@ impl SystemFile {
     pub fn new(file: File, most: u64) -> SystemFile
         ensures works { has_fault result ≡ false }
         ensures most { most_bytes result ≡ most }
+        ensures syncs { does_sync result ≡ true }
     {
         SystemFile {
             file,
             most,
+            syncs: true,
             fault: None,
         }
+    }
+
+    /// From now on a sync asks nothing of the system: what was written outlives the process, and a machine
+    /// that dies may lose it.
+    pub fn stop_syncing(&mut self)
+        ensures stopped { does_sync self.new ≡ false }
+        ensures fault { self.new.fault ≡ self.old.fault }
+        ensures most { most_bytes self.new ≡ most_bytes self.old }
+    {
+        self.syncs = false;
     }
 
     /// Why its first call failed that did.
@@ -98,7 +111,16 @@ impl Device for SystemFile {
         }
     }
 
-    fn sync(&mut self) -> Result<(), DeviceFault> {
+    fn sync(&mut self) -> Result<(), DeviceFault>
+        ensures durable { OnOk result (WhereTold system_disk self.old
+            (Only (system_disk.seen self.old) (system_disk.may_leave self.new))) }
+        ensures kept { KeepsFile system_disk self.old self.new }
+        ensures cause { HasCause system_disk self.old self.new result }
+        ensures stopped { does_sync self.old ≡ false → (result ≡ Ok tt) × (self.new ≡ self.old) }
+    {
+        if !self.syncs {
+            return Ok(());
+        }
         match self.file.sync_all() {
             Ok(()) => Ok(()),
             Err(why) => Err(self.fail(why)),

@@ -52,7 +52,7 @@ pub(crate) fn again(error: &io::Error) -> io::Error {
     }
 }
 
-/// What it took is stored.
+/// What it took is stored, where the store syncs.
 impl Lasting for StoreAccount<'_> {
     ghost lasts = { store_lasts };
 

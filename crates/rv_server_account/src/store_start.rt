@@ -1,13 +1,16 @@
 //! Enters the store of a folder: the account with which a server starts.
-ghost use Rattle.std.specs.Prelude.{◌≡◌, ℕ, IfOk, None, Option};
+ghost use Rattle.std.specs.Prelude.{◌≡◌, IfOk, None, false, if◌then◌else◌, true};
 ghost use Rattle.rv_machine.specs.Machines.{state_in};
 ghost use Rattle.rv_server_account.specs.Kept.{journal_in};
 ghost use Rattle.rv_state.specs.resume.Resuming.{CanResume};
 ghost use Rattle.rv_store.specs.Entered.{AreEpochs};
-ghost use Rattle.rv_store.specs.Epochs.{IsChoice};
-ghost use Rattle.rv_store.specs.Lasting.{fault_of};
+ghost use Rattle.rv_store.specs.Lasting.{fault_of, journal_of};
+ghost use Rattle.rv_journal.specs.System.{does_sync};
+ghost use Rattle.rv_server_account.specs.Boots.{IsChosenIn};
 
+use crate::boot::Boots;
 use crate::fault::{KeepFault, named, unusable};
+use crate::rules::StoreRules;
 use crate::store_account::{StoreAccount, again};
 use os::errno;
 use rv_folder::{BeginFault, SystemFolder, SystemFolderFault};
@@ -29,6 +32,8 @@ pub struct StoreStart<'a> {
     pub machine: Machine,
     /// Whether that was the present account, or was begun.
     pub choice: EpochChoice,
+    /// Why the present account might not go on, if that is so: what was written of it may be lost.
+    pub why_new: Option<&'static str>,
 }
 
 // The folder of a store, locked.
@@ -69,37 +74,58 @@ fn kept<'a>(
     }
 }
 
+// The epochs that a start allows, where the present account lets its own go on or not.
+fn wish_where(epochs: EpochWish, lets_go_on: bool) -> EpochWish
+    ensures least { result.least ≡ epochs.least }
+    ensures most { result.most ≡ epochs.most }
+    ensures new { result.is_new ≡ (if lets_go_on then epochs.is_new else true) }
+{
+    EpochWish {
+        least: epochs.least,
+        most: epochs.most,
+        is_new: epochs.is_new || !lets_go_on,
+    }
+}
+
 /// Enters the store of a folder, which is made if its parent is there, and locks it. By the wall clock's
-/// milliseconds it goes on with the present account, if the wish allows that, or begins a new one. No file
-/// gets more than `most` bytes.
+/// milliseconds it goes on with the present account, if the rules allow that and all that was written of it
+/// is there, or begins a new one. A store that isn't synced has a note of the machine's boot, and its account
+/// goes on in no other one.
 ///
-/// At `Err` no file has other lines than before.
+/// At `Err` no file of an account has other lines than before.
 pub fn enter<'a>(
     rt: &'a HostRuntime,
     path: &str,
-    wish: EpochWish,
-    most: u64,
+    rules: StoreRules<'_>,
     wall: u64,
 ) -> Result<StoreStart<'a>, KeepFault>
-    requires { AreEpochs wish }
+    requires { AreEpochs rules.epochs }
     ensures resumes { IfOk result (λ start. CanResume (state_in start.machine)) }
-    ensures chosen { IfOk result (λ start.
-        (present : Option ℕ) × IsChoice wish present wall start.choice) }
+    ensures chosen { IfOk result (λ start. IsChosenIn rules.entry wall start.choice) }
     ensures works { IfOk result (λ start. fault_of (journal_in start.account) ≡ None) }
+    ensures syncs { IfOk result (λ start. rules.entry.syncs ≡ false
+        → does_sync (journal_of (journal_in start.account)).device ≡ false) }
 {
-    let mut folder = folder_of(rt, path, most)?;
-    match enter_store(rt.alloc(), &mut folder, wish, wall) {
-        Ok(EnteredStore { account, choice }) => {
-            let StoredAccount { journal, machine } = account;
-            let account = kept(rt, journal, folder, machine.epoch())?;
-            Ok(StoreStart {
-                account,
-                machine,
-                choice,
-            })
-        }
-        Err(why) => Err(told(rt, &folder, path, why)),
+    let mut folder = folder_of(rt, path, rules.most)?;
+    let boots = Boots::read(rt, path, rules.boot)?;
+    let lets_go_on = boots.lets_go_on(rules.syncs);
+    let wish = wish_where(rules.epochs, lets_go_on);
+    let (mut account, choice) = match enter_store(rt.alloc(), &mut folder, wish, wall) {
+        Ok(EnteredStore { account, choice }) => (account, choice),
+        Err(why) => return Err(told(rt, &folder, path, why)),
+    };
+    boots.note(rt, path, rules.syncs)?;
+    if !rules.syncs {
+        account.journal.stop_syncing();
     }
+    let StoredAccount { journal, machine } = account;
+    let account = kept(rt, journal, folder, machine.epoch())?;
+    Ok(StoreStart {
+        account,
+        machine,
+        choice,
+        why_new: boots.why_new(lets_go_on),
+    })
 }
 
 // Why a store wasn't entered. The system's error number still says why a file failed.

@@ -1,9 +1,10 @@
 //! The journal of an account, as an engine writes to it.
-ghost use Rattle.std.specs.Prelude.{◌≡◌, None};
+ghost use Rattle.std.specs.Prelude.{◌≡◌, None, false};
+ghost use Rattle.rv_journal.specs.System.{does_sync};
 ghost use Rattle.rv_store.specs.Lasting.{fault_of, journal_of};
 
 use rv_frame::{Lasting, WriteFault};
-use rv_journal::{Device, DiskJournal, JournalFault};
+use rv_journal::{Device, DiskJournal, JournalFault, SystemFile};
 
 // What is told of a piece that wasn't taken.
 const NONE_SENT: WriteFault = WriteFault { sent: 0 };
@@ -47,6 +48,17 @@ impl<D: Device> AccountJournal<D> {
     {
         let AccountJournal { journal, fault: _ } = self;
         journal.into_device()
+    }
+}
+
+impl AccountJournal<SystemFile> {
+    /// What it takes from now on is with the system, and not stored: it outlives the process, and a machine
+    /// that dies may lose it.
+    pub fn stop_syncing(&mut self)
+        ensures stopped { does_sync (journal_of self.new).device ≡ false }
+        ensures fault { fault_of self.new ≡ fault_of self.old }
+    {
+        self.journal.stop_syncing();
     }
 }
 

@@ -34,6 +34,10 @@ pub struct HostOptions<'a> {
     pub epoch: EpochRule,
     /// Whether a new epoch begins in the store, which is there then.
     pub new_epoch: bool,
+    /// Whether the store, which is there then, isn't synced.
+    pub no_sync: bool,
+    /// The machine's boot, as it was written, if it was named.
+    pub boot: Option<&'a str>,
     /// The file to which its account is written, if there is one.
     pub account: Option<&'a str>,
     /// The folder in which its account is kept instead, as it was written, if there is one.
@@ -94,7 +98,9 @@ fn options_of<'a>(given: &ArgMatches<'a>) -> Result<HostOptions<'a>, HostFault<'
     Ok(HostOptions {
         listen,
         epoch: epoch_of(given)?,
-        new_epoch: new_epoch_of(given)?,
+        new_epoch: flag_in_store(given, "new-epoch")?,
+        no_sync: flag_in_store(given, "no-sync")?,
+        boot: text_of(given, "boot"),
         account: text_of(given, "account"),
         store: store_of(given)?,
         status: text_of(given, "status"),
@@ -126,19 +132,22 @@ fn epoch_of<'a>(given: &ArgMatches<'a>) -> Result<EpochRule, HostFault<'a>>
     }
 }
 
-// Whether a new epoch begins, for which there has to be a store.
-fn new_epoch_of<'a>(given: &ArgMatches<'a>) -> Result<bool, HostFault<'a>>
-    ensures ok { IfOk result (λ begins. IsTrue begins
-        ↔ (first_of (codes "new-epoch") (rows_of (found_of given.now)) ≡ Some (codes "true"))) }
-    ensures in_store { IfOk result (λ begins. IsTrue begins
+// Whether a flag is there, for which there has to be a store.
+fn flag_in_store<'a>(
+    given: &ArgMatches<'a>,
+    word: &'static str,
+) -> Result<bool, HostFault<'a>>
+    ensures ok { IfOk result (λ is_there. IsTrue is_there
+        ↔ (first_of word.now (rows_of (found_of given.now)) ≡ Some (codes "true"))) }
+    ensures in_store { IfOk result (λ is_there. IsTrue is_there
         → is_some (first_of (codes "store") (rows_of (found_of given.now))) ≡ true) }
     ensures fault { IfErr result (IsFaultOf (rows_of (found_of given.now))) }
 {
-    let begins = is_given(given, "new-epoch");
-    if begins && text_of(given, "store").is_none() {
-        Err(HostFault::NoStore)
+    let is_there = is_given(given, word);
+    if is_there && text_of(given, "store").is_none() {
+        Err(HostFault::NoStore(word))
     } else {
-        Ok(begins)
+        Ok(is_there)
     }
 }
 

@@ -43,7 +43,7 @@ const ABOUT: &[(&str, &str)] = &[
     ),
     (
         "verify",
-        "Verify the account in a file, or on standard input by -, and a record of replies beside it",
+        "Verify the account in a file or a store, or on standard input by -, and a record of replies",
     ),
 ];
 

@@ -129,5 +129,5 @@ fn file_word<'a>(alloc: Global) -> Arg<'a>
     Arg::new(alloc, "FILE")
         .required(true)
         .action(ArgAction::Set)
-        .help("The account's file, or - for standard input")
+        .help("The account's file, a store's folder, or - for standard input")
 }

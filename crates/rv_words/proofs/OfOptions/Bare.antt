@@ -9,6 +9,7 @@ use Rattle.clap.proofs.OnLiterals.{clap_on_literals}
 use Rattle.clap.specs.Words.{Row, Text, fault_of, first_of, matches_of}
 use Rattle.rv_words.specs.options.Laws.{BareAlone, BareAreNamed, bare_words}
 use Rattle.rv_words.specs.options.Words.{host_app}
+use Rattle.rv_words.specs.options.Options.{SaysFlag}
 use Rattle.rv_words.specs.options.Epochs.{SaysRule}
 use Rattle.rv_words.specs.options.Numbers.{GivesNumber, WritesWithin, given_for}
 use Rattle.rv_words.specs.declared.options.epoch.EpochRule.{EpochRule}
@@ -54,6 +55,14 @@ above_row = refl
 begin_row : first_of (codes "new-epoch") rows ≡ Some (codes "false")
 unfolding clap_on_literals
 begin_row = refl
+
+sync_row : first_of (codes "no-sync") rows ≡ Some (codes "false")
+unfolding clap_on_literals
+sync_row = refl
+
+boot_row : first_of (codes "boot") rows ≡ None
+unfolding clap_on_literals
+boot_row = refl
 
 clients_row : given_for number.Clients rows ≡ Some (codes "65536")
 unfolding clap_on_literals
@@ -172,6 +181,10 @@ true_flag false never = refl
 false_flag : (flag : Bool) → flag ≡ false → flag ≡ true → ⊥
 false_flag flag is not_false = absurd (cc)
 
+unset : (flag : Bool) (word : Text) → flag ≡ false → first_of word rows ≡ Some (codes "false")
+    → SaysFlag rows word flag
+unset flag word is row = (λ set. absurd (false_flag flag is set), λ has. absurd (no_flag _ row has))
+
 no_text : (text : Option (Bor Text)) → None ≡ option_map (λ t. t.now) text → text ≡ None
 no_text None is = refl
 no_text (Some t) is = absurd (cc)
@@ -192,11 +205,13 @@ bare_named options bare = record {
     tells = status_row ∙ ap (option_map (λ (t : Bor Text). t.now)) (sym bare.tells_none);
     tells_as = names_row ∙ ap (option_map (λ (t : Bor Text). t.now)) (sym bare.tells_as_none);
     in_epoch = subst (λ (rule : EpochRule). SaysRule rows rule) (sym bare.by_clock) (epoch_row, above_row);
-    begins = (
-      λ set. absurd (false_flag options.new_epoch bare.begins_none set),
-      λ flag. absurd (no_flag _ begin_row flag),
-    );
-    in_store = λ set. absurd (false_flag options.new_epoch bare.begins_none set);
+    begins = unset options.new_epoch (codes "new-epoch") bare.begins_none begin_row;
+    unsynced = unset options.no_sync (codes "no-sync") bare.syncs sync_row;
+    in_store = record {
+      begins = λ set. absurd (false_flag options.new_epoch bare.begins_none set);
+      unsynced = λ set. absurd (false_flag options.no_sync bare.syncs set);
+    };
+    boots = boot_row ∙ ap (option_map (λ (b : Bor Text). b.now)) (sym bare.boots_none);
     clients = given number.Clients rows (codes "65536") 65536 options.clients clients_row clients_written
         bare.clients;
     opens = given number.Open rows (codes "100000") 100000 options.open_places open_row open_written
@@ -208,10 +223,7 @@ bare_named options bare = record {
     holds = given number.Memory rows (codes "256") 256 options.memory memory_row memory_written bare.holds;
     idles = given number.Idle rows (codes "3600") 3600 options.idle idle_row idle_written bare.idles;
     stalls = given number.Stall rows (codes "30") 30 options.stall stall_row stall_written bare.stalls;
-    is_quiet = (
-      λ set. absurd (false_flag options.quiet bare.speaks set),
-      λ flag. absurd (no_flag _ quiet_row flag),
-    );
+    is_quiet = unset options.quiet (codes "quiet") bare.speaks quiet_row;
   };
 }
 
@@ -220,6 +232,8 @@ bare_alone options named = record {
   listens = same_Some _ _ (sym named.said.listens ∙ listen_row);
   by_clock = by_clock options.epoch named.said.in_epoch;
   begins_none = true_flag options.new_epoch (λ set. no_flag _ begin_row (named.said.begins.0 set));
+  syncs = true_flag options.no_sync (λ set. no_flag _ sync_row (named.said.unsynced.0 set));
+  boots_none = no_text options.boot (sym boot_row ∙ named.said.boots);
   keeps_none = no_text options.account (sym account_row ∙ named.said.keeps);
   stores_none = no_text options.store (sym store_row ∙ named.said.stores);
   tells_none = no_text options.status (sym status_row ∙ named.said.tells);

@@ -21,7 +21,7 @@ IsFaultOf rows TwoEpochs = (is_some (given_for number.Epoch rows) ≡ true)
     × (is_some (given_for number.EpochAbove rows) ≡ true)
 IsFaultOf rows TwoAccounts = (is_some (first_of (codes "account") rows) ≡ true)
     × (is_some (first_of (codes "store") rows) ≡ true)
-IsFaultOf rows NoStore = (first_of (codes "new-epoch") rows ≡ Some (codes "true"))
+IsFaultOf rows (NoStore word) = (first_of word.now rows ≡ Some (codes "true"))
     × (first_of (codes "store") rows ≡ None)
 IsFaultOf rows NoMemory = Unit {0}
 

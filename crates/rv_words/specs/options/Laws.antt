@@ -14,6 +14,8 @@ pub record AreBare (options : HostOptions) : Type 0 where
   pub listens : options.listen.now ≡ codes "127.0.0.1:7411"
   pub by_clock : options.epoch ≡ Clock
   pub begins_none : options.new_epoch ≡ false
+  pub syncs : options.no_sync ≡ false
+  pub boots_none : options.boot ≡ None
   pub keeps_none : options.account ≡ None
   pub stores_none : options.store ≡ None
   pub tells_none : options.status ≡ None

@@ -1,5 +1,5 @@
 -- The options that words name.
-use Rattle.std.specs.Prelude.{codes, List, None, Some, true, is_some, option_map, [], ◌≡◌, ◌↔◌}
+use Rattle.std.specs.Prelude.{Bool, codes, List, None, Some, true, is_some, option_map, [], ◌≡◌, ◌↔◌}
 use Rattle.clap.specs.Words.{Row, Text, fault_of, first_of, matches_of}
 use Rattle.rv_words.specs.options.Words.{host_app}
 use Rattle.rv_words.specs.options.Numbers.{Fits, GivesNumber}
@@ -11,9 +11,14 @@ use Rattle.rv_words.specs.declared.options.HostOptions.{HostOptions}
 abbrev pub HasOneAccount : HostOptions → Type 0
 HasOneAccount options = is_some options.account ≡ true → options.store ≡ None
 
--- only where there is a store does a new epoch begin in it
-abbrev pub BeginsInStore : HostOptions → Type 0
-BeginsInStore options = options.new_epoch ≡ true → is_some options.store ≡ true
+-- only where there is a store does a new epoch begin in it, and isn't it synced
+pub record HasItsStore (options : HostOptions) : Type 0 where
+  pub begins : options.new_epoch ≡ true → is_some options.store ≡ true
+  pub unsynced : options.no_sync ≡ true → is_some options.store ≡ true
+
+-- the row of a flag says whether it is there
+abbrev pub SaysFlag : List Row → Text → Bool → Type 0
+SaysFlag rows word flag = (flag ≡ true) ↔ (first_of word rows ≡ Some (codes "true"))
 
 -- the rows, each with the values of an option, say these options
 pub record SaysOptions (rows : List Row) (options : HostOptions) : Type 0 where
@@ -24,8 +29,10 @@ pub record SaysOptions (rows : List Row) (options : HostOptions) : Type 0 where
   pub tells : first_of (codes "status") rows ≡ option_map (λ address. address.now) options.status
   pub tells_as : first_of (codes "status-name") rows ≡ option_map (λ names. names.now) options.status_names
   pub in_epoch : SaysRule rows options.epoch
-  pub begins : (options.new_epoch ≡ true) ↔ (first_of (codes "new-epoch") rows ≡ Some (codes "true"))
-  pub in_store : BeginsInStore options
+  pub begins : SaysFlag rows (codes "new-epoch") options.new_epoch
+  pub unsynced : SaysFlag rows (codes "no-sync") options.no_sync
+  pub in_store : HasItsStore options
+  pub boots : first_of (codes "boot") rows ≡ option_map (λ boot. boot.now) options.boot
   pub clients : GivesNumber number.Clients rows options.clients
   pub opens : GivesNumber number.Open rows options.open_places
   pub connects : GivesNumber number.Connections rows options.connections
@@ -33,7 +40,7 @@ pub record SaysOptions (rows : List Row) (options : HostOptions) : Type 0 where
   pub holds : GivesNumber number.Memory rows options.memory
   pub idles : GivesNumber number.Idle rows options.idle
   pub stalls : GivesNumber number.Stall rows options.stall
-  pub is_quiet : (options.quiet ≡ true) ↔ (first_of (codes "quiet") rows ≡ Some (codes "true"))
+  pub is_quiet : SaysFlag rows (codes "quiet") options.quiet
 
 -- `clap` finds no fault in the words, the first of which is the command's name, and their options are these
 pub record NamesOptions (words : List Text) (options : HostOptions) : Type 0 where
@@ -41,10 +48,10 @@ pub record NamesOptions (words : List Text) (options : HostOptions) : Type 0 whe
   pub said : SaysOptions (matches_of host_app words) options
 
 -- each number of the options is within its option's limits, there is an epoch by their rule, and one account
--- at most, which is a store where a new epoch begins in it
+-- at most, which is a store where a flag wants one
 pub record FitOptions (options : HostOptions) : Type 0 where
   pub in_epoch : FitsRule options.epoch
-  pub in_store : BeginsInStore options
+  pub in_store : HasItsStore options
   pub one_account : HasOneAccount options
   pub clients : Fits number.Clients options.clients
   pub opens : Fits number.Open options.open_places

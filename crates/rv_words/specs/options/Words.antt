@@ -35,6 +35,8 @@ host_app = with_rules (new_app (codes "host"))
     ∷ number_rule number.Epoch []
     ∷ number_rule number.EpochAbove []
     ∷ flag_rule (codes "new-epoch")
+    ∷ flag_rule (codes "no-sync")
+    ∷ text_rule (codes "boot") false
     ∷ number_rule number.Clients (codes "65536" ∷ [])
     ∷ number_rule number.Open (codes "100000" ∷ [])
     ∷ number_rule number.Connections (codes "10000" ∷ [])

@@ -27,8 +27,8 @@ pub enum HostFault<'a> {
     TwoEpochs,
     /// `--account` and `--store` are both there.
     TwoAccounts,
-    /// `--new-epoch` is there, and `--store` isn't.
-    NoStore,
+    /// The flag of this word is there, and `--store` isn't.
+    NoStore(&'static str),
     /// Memory was refused.
     NoMemory,
 }
@@ -76,7 +76,7 @@ impl fmt::Display for HostFault<'_> {
             HostFault::Missing(word) => write!(f, "--{word}: no value"),
             HostFault::TwoEpochs => f.write_str("--epoch and --epoch-above: not both"),
             HostFault::TwoAccounts => f.write_str("--account and --store: not both"),
-            HostFault::NoStore => f.write_str("--new-epoch: only with --store"),
+            HostFault::NoStore(word) => write!(f, "--{word}: only with --store"),
             HostFault::NoMemory => f.write_str("no memory"),
         }
     }

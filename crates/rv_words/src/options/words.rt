@@ -134,6 +134,22 @@ const OPTIONS: &[ListedOption] = &[
         help: "Begin a new epoch in the store",
     },
     ListedOption {
+        name: "no-sync",
+        values: &[],
+        required: false,
+        action: ArgAction::SetTrue,
+        usual: &[],
+        help: "Answer before the store is synced: a kill loses nothing, a machine that dies may",
+    },
+    ListedOption {
+        name: "boot",
+        values: &["ID"],
+        required: false,
+        action: ArgAction::Set,
+        usual: &[],
+        help: "The machine's boot [default: what the system says]",
+    },
+    ListedOption {
         name: "clients",
         values: &["N"],
         required: false,

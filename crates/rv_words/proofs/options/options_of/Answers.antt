@@ -6,14 +6,19 @@ use Rattle.rv_words.proofs.options.options_of.Goals as goal
 pub returns-clause-ok : goal.returns-clause-ok
 returns-clause-ok c = record {
   listens = sym c.in-Some.ensures;
-  keeps = sym c.text_of-2.ensures;
+  keeps = sym c.text_of-3.ensures;
   stores = sym c.in_ok-store_of.ensures.ok;
-  one_account = one_account _ _ _ c.text_of-2.ensures c.in_ok-store_of.ensures.alone;
-  tells = sym c.text_of-3.ensures;
-  tells_as = sym c.text_of-4.ensures;
+  one_account = one_account _ _ _ c.text_of-3.ensures c.in_ok-store_of.ensures.alone;
+  tells = sym c.text_of-4.ensures;
+  tells_as = sym c.text_of-5.ensures;
   in_epoch = c.in_ok-epoch_of.ensures.ok;
-  begins = c.in_ok-new_epoch_of.ensures.ok;
-  in_store = in_store _ _ _ c.in_ok-store_of.ensures.ok c.in_ok-new_epoch_of.ensures.in_store;
+  begins = c.in_ok-flag_in_store.ensures.ok;
+  unsynced = c.in_ok-flag_in_store-2.ensures.ok;
+  in_store = record {
+    begins = in_store _ _ _ c.in_ok-store_of.ensures.ok c.in_ok-flag_in_store.ensures.in_store;
+    unsynced = in_store _ _ _ c.in_ok-store_of.ensures.ok c.in_ok-flag_in_store-2.ensures.in_store;
+  };
+  boots = sym c.text_of-2.ensures;
   clients = c.in_ok-number_of.ensures.ok;
   opens = c.in_ok-number_of-2.ensures.ok;
   connects = c.in_ok-number_of-3.ensures.ok;
@@ -27,8 +32,11 @@ returns-clause-ok c = record {
 pub returns-clause-fits : goal.returns-clause-fits
 returns-clause-fits c = record {
   in_epoch = c.in_ok-epoch_of.ensures.fits;
-  in_store = in_store _ _ _ c.in_ok-store_of.ensures.ok c.in_ok-new_epoch_of.ensures.in_store;
-  one_account = one_account _ _ _ c.text_of-2.ensures c.in_ok-store_of.ensures.alone;
+  in_store = record {
+    begins = in_store _ _ _ c.in_ok-store_of.ensures.ok c.in_ok-flag_in_store.ensures.in_store;
+    unsynced = in_store _ _ _ c.in_ok-store_of.ensures.ok c.in_ok-flag_in_store-2.ensures.in_store;
+  };
+  one_account = one_account _ _ _ c.text_of-3.ensures c.in_ok-store_of.ensures.alone;
   clients = c.in_ok-number_of.ensures.fits;
   opens = c.in_ok-number_of-2.ensures.fits;
   connects = c.in_ok-number_of-3.ensures.fits;
