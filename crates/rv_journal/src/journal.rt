@@ -189,7 +189,7 @@ impl<D: Device> DiskJournal<D> {
 
 impl DiskJournal<SystemFile> {
     /// A piece that is added from now on is with the system, and not stored: it outlives the process, and a
-    /// machine that dies may lose it, and bytes of what was there, as no device does that tells what it holds.
+    /// machine that dies may lose it, or bytes of it.
     pub fn stop_syncing(&mut self)
         ensures stopped { does_sync self.new.device ≡ false }
         ensures fault { self.new.device.fault ≡ self.old.device.fault }

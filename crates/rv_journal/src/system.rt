@@ -1,6 +1,6 @@
 //! A file of the system as a device, which tells nothing of what it holds.
-ghost use Rattle.std.specs.Prelude.{◌≡◌, ◌↔◌, ◌+◌, ◌<◌, ◌≤◌, Err, IsTrue, Ok, OnOk, false, length, option_map};
-ghost use Rattle.std.specs.Prelude.{true};
+ghost use Rattle.std.specs.Prelude.{◌≡◌, ◌↔◌, ◌+◌, ◌<◌, ◌≤◌, Err, IsTrue, Ok, OnOk, false, length, true};
+ghost use Rattle.std.specs.Prelude.{option_map};
 ghost use Rattle.rv_journal.specs.Device.{HasCause, Holds, KeepsFile, Only, WhereTold, WritesFile};
 ghost use Rattle.rv_journal.specs.System.{does_sync, has_fault, most_bytes, system_disk};
 ghost use Rattle.rv_journal.specs.declared.device.DeviceFault.TheVariants.{Failed};

@@ -1,9 +1,9 @@
 -- By the boots that are known a start's wish is one that the rules allow.
-use Rattle.std.proofs.Common.{◌≡◌, ◌⊎◌, ◌↔◌, ◌∙◌, ap, inl, inr, Bool, Bor, false, List, None, Option, refl, Some, sym}
-use Rattle.std.proofs.Common.{true, ℕ}
+use Rattle.std.proofs.Common.{◌≡◌, ◌⊎◌, ◌↔◌, ◌∙◌, ap, inl, inr, Bool, Bor, false, List, None, Option, refl}
+use Rattle.std.proofs.Common.{Some, sym, true, ℕ}
 use Rattle.std.proofs.lemmas.Option.{same_Some}
 use Rattle.std.specs.Prelude.{if◌then◌else◌, IfSome, option_map}
-use Rattle.rv_server_account.specs.Boots.{IsChosenIn, KnownBoots, LetsGoOn, boot_line}
+use Rattle.rv_server_account.specs.Boots.{IsChosenIn, KnownBoots, MayGoOnIn, boot_line}
 use Rattle.rv_server_account.specs.declared.rules.StoreRules.{StoreRules}
 use Rattle.rv_store.specs.Epochs.{IsChoice}
 use Rattle.rv_store.specs.declared.wish.EpochChoice.{EpochChoice}
@@ -35,15 +35,15 @@ pub record IsWish (rules : StoreRules) (lets : Bool) (wish : EpochWish) : Type 0
   pub new : wish.is_new ≡ (if lets then rules.epochs.is_new else true)
 
 or_lost : (rules : StoreRules) (boots : KnownBoots) (lets : Bool)
-    → (lets ≡ true) ↔ LetsGoOn rules.syncs boots → (rules.epochs.is_new ≡ true) ⊎ (lets ≡ true → ⊥)
-    → (rules.epochs.is_new ≡ true) ⊎ (LetsGoOn rules.syncs boots → ⊥)
+    → (lets ≡ true) ↔ MayGoOnIn rules.syncs boots → (rules.epochs.is_new ≡ true) ⊎ (lets ≡ true → ⊥)
+    → (rules.epochs.is_new ≡ true) ⊎ (MayGoOnIn rules.syncs boots → ⊥)
 or_lost rules boots lets goes_on (inl asked) = inl asked
 or_lost rules boots lets goes_on (inr not_so) = inr (λ so. not_so (goes_on.1 so))
 
-pub chosen_by : (rules : StoreRules) (boots : KnownBoots) (present : Option ℕ) (lets : Bool) (wish : EpochWish)
-    (now : ℕ) (choice : EpochChoice)
+pub chosen_by : (rules : StoreRules) (boots : KnownBoots) (present : Option ℕ) (lets : Bool)
+    (wish : EpochWish) (now : ℕ) (choice : EpochChoice)
     → IfSome rules.boot (λ text. boots.current ≡ Some (boot_line text.now))
-    → (lets ≡ true) ↔ LetsGoOn rules.syncs boots → IsWish rules lets wish → IsChoice wish present now choice
+    → (lets ≡ true) ↔ MayGoOnIn rules.syncs boots → IsWish rules lets wish → IsChoice wish present now choice
     → IsChosenIn rules now choice
 chosen_by rules boots present lets wish now choice named goes_on is chosen = record {
   boots = boots;

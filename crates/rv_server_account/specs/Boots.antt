@@ -21,7 +21,7 @@ known_boots boots = record {
 
 -- All that was written of the present account is there: it was synced, or written in this boot. And a later
 -- start can tell the same of what is written now: it is synced, or the boot is known.
-pub record LetsGoOn (syncs : Bool) (boots : KnownBoots) : Type 0 where
+pub record MayGoOnIn (syncs : Bool) (boots : KnownBoots) : Type 0 where
   pub is_there : (boot : List ℕ) → boots.noted ≡ Some boot → boots.current ≡ Some boot
   pub can_tell : syncs ≡ false → is_some boots.current ≡ true
 
@@ -39,8 +39,8 @@ pub record IsWishIn (rules : StoreRules) (boots : KnownBoots) (wish : EpochWish)
   pub least : wish.least ≡ rules.epochs.least
   pub most : wish.most ≡ rules.epochs.most
   pub asked : rules.epochs.is_new ≡ true → wish.is_new ≡ true
-  pub lost : (LetsGoOn rules.syncs boots → ⊥) → wish.is_new ≡ true
-  pub else : wish.is_new ≡ true → (rules.epochs.is_new ≡ true) ⊎ (LetsGoOn rules.syncs boots → ⊥)
+  pub lost : (MayGoOnIn rules.syncs boots → ⊥) → wish.is_new ≡ true
+  pub else : wish.is_new ≡ true → (rules.epochs.is_new ≡ true) ⊎ (MayGoOnIn rules.syncs boots → ⊥)
 
 -- It was chosen by the epoch that a store had, and by the boots that were known.
 pub record IsChosenIn (rules : StoreRules) (now : ℕ) (choice : EpochChoice) : Type 0 where

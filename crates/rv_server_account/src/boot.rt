@@ -1,6 +1,6 @@
 //! The machine's boots: whether a store that was written without syncs has all that was written.
 ghost use Rattle.std.specs.Prelude.{◌≡◌, ◌↔◌, IfOk, IfSome, IsTrue, Some, option_map, string_bytes};
-ghost use Rattle.rv_server_account.specs.Boots.{LetsGoOn, boot_line, known_boots};
+ghost use Rattle.rv_server_account.specs.Boots.{MayGoOnIn, boot_line, known_boots};
 
 use crate::fault::{KeepFault, named};
 use std::alloc::{AllocError, Global};
@@ -43,7 +43,7 @@ impl Boots {
     /// Whether the present account has all that was written, and a later start can tell the same of what is
     /// written now.
     pub(crate) fn lets_go_on(&self, syncs: bool) -> bool
-        ensures { IsTrue result ↔ LetsGoOn syncs (known_boots self.now) }
+        ensures { IsTrue result ↔ MayGoOnIn syncs (known_boots self.now) }
     {
         match (&self.noted, &self.current) {
             (None, None) => syncs,

@@ -133,10 +133,7 @@ fn epoch_of<'a>(given: &ArgMatches<'a>) -> Result<EpochRule, HostFault<'a>>
 }
 
 // Whether a flag is there, for which there has to be a store.
-fn flag_in_store<'a>(
-    given: &ArgMatches<'a>,
-    word: &'static str,
-) -> Result<bool, HostFault<'a>>
+fn flag_in_store<'a>(given: &ArgMatches<'a>, word: &'static str) -> Result<bool, HostFault<'a>>
     ensures ok { IfOk result (λ is_there. IsTrue is_there
         ↔ (first_of word.now (rows_of (found_of given.now)) ≡ Some (codes "true"))) }
     ensures in_store { IfOk result (λ is_there. IsTrue is_there

@@ -15,7 +15,7 @@ pub fn host_words<'a>(alloc: Global) -> Result<Command<'a>, AllocError>
     ensures local { IfOk result (λ c. (out-Command c).has_globals ≡ false) }
 {
     let command = Command::new(alloc, "host")
-        .about("Serve a book, in memory, until the server is killed")
+        .about("Serve a book until the server is killed; with a store the next start goes on")
         .bin_name("rv host")?;
     with_options(alloc, command, OPTIONS)
 }
