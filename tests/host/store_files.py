@@ -1,22 +1,27 @@
-"""A store's folder and its files: who has it, which epoch a start gets, which files are refused, and what a full disk leaves."""
+"""A store's folder and its files: who has it, which epoch a start gets, which files are refused, what a full disk leaves, and that a
+store of each format opens."""
 from __future__ import annotations
 
 import contextlib
 import os
 import pathlib
+import shutil
 import time
 import unittest
 
-from tests import left_out
+from tests import ROOT, left_out
 from tests.cases import Case, SideBySide
+from tests.commands.replies import counted, joined
 from tests.faults.system import InSystems, System
 from tests.host.files import bounded
-from tests.host.options import only
+from tests.host.options import only, ran
 from tests.host.stored import Start, StoreCase, StoreHost, account_file
-from tests.journal.store import FORMAT, HEAD, ROOM
-from tests.model.account import Key
+from tests.journal.store import FORMAT, HEAD, ROOM, text_of
+from tests.model.account import Key, Request
+from tests.sockets.accounts import call_members, read_account
 from tests.sockets.ledger import Asked, Told
-from tests.sockets.wire import demand, frame, give, hello, replied, request, welcome
+from tests.sockets.wire import (
+    Members, Peer, demand, drain, frame, give, hello, key_of, members_of, refused, replied, reply_of, request, swap, take, welcome)
 
 # The greatest epoch.
 MOST = 2**53 - 1
@@ -37,6 +42,30 @@ BAD = [
     ("no legal account: rv verify tells where", FORMAT + HEAD_OF_7 + b"none\n" + ROOM),
     ("no legal account: rv verify tells where", FORMAT + HEAD_OF_7 + b"0 0 tick\n" + ROOM),
 ]
+# A store of the format's version 1, which was written by hand from FORMATS, and the last replies that its clients were told. In it four
+# requests wait; one of them is over since long.
+FIRST_STORE, FIRST_RECORD = ROOT / "examples/store-1", ROOT / "examples/store-1.jsonl"
+# Its sessions, as client, incarnation and version; and how many entries it has.
+SESSIONS, ENTRIES = [(1, 1, 2), (2, 1, 1), (13, 9, 1), (15, 1, 2), (17, 1, 1)], 42
+# What another client asks then, with each reply, and what those are told who waited.
+OTHER = 18
+ASKED: list[tuple[Members, Members]] = [
+    (take("now", 0), {"reply": "item", "item": "first"}),
+    (take("now", 0), {"reply": "item", "item": "second"}),
+    (take("now", 0), {"reply": "item", "item": "third"}),
+    (take("now", 0), {"reply": "empty"}),
+    (drain(16, 11), {"reply": "drained", "texts": ["of the first start", "of the second start"]}),
+    (drain(16, 10), {"reply": "drained", "texts": []}),
+    (give("put", "more", queue=20), {"reply": "done"}),
+    (take("now", 21), {"reply": "item", "item": "handed"}),
+    (swap("other", 0, 63), {"reply": "swapped", "item": "kept"}),
+]
+WAITED: dict[int, Members] = {
+    14: {"reply": "item", "item": "more"},
+    15: {"reply": "received", "by_client": OTHER, "by_incarnation": 1, "by_number": 8},
+    16: {"reply": "swapped", "item": "other"},
+    17: {"reply": "timedout"},
+}
 # A new journal has so many bytes. An account's file with few of them may become so long; so many items need more.
 FIRST, FULL, ITEMS, ITEM = 1 << 20, 6_000, 100, "x" * 100
 
@@ -273,7 +302,53 @@ class Disks(StoreCase):
             self.check_equal("with room for it", host.start, Start(7, None))
 
 
+class Opened(StoreCase):
+    """A store of each version of the format opens for ever."""
+
+    def setUp(self) -> None:
+        super().setUp()
+        self.asked: Asked = {}
+        self.heard: Told = []
+
+    def expect(self, peer: Peer, key: Key, reply: Members) -> None:
+        """A request is answered by this reply."""
+        peer.expect(request(key, self.asked[key]), replied(key, **reply))
+        self.heard.append((key, reply))
+
+    def test_version_1(self) -> None:
+        """Its epoch goes on: sessions, last replies and items are there, and those who wait are met, or timed out."""
+        shutil.copytree(FIRST_STORE, self.store)
+        account = read_account(text_of(account_file(self.store, 7).read_bytes()).removeprefix(FORMAT))
+        self.asked |= {entry.act.key: call_members(entry.act.call) for entry in account.entries if isinstance(entry.act, Request)}
+        others = account_file(self.store, 5).read_bytes()
+        with self.host() as host, host.connect() as peer:
+            self.check_equal("its start", host.start, Start(7, ENTRIES))
+            for client, incarnation, version in SESSIONS:
+                peer.expect(hello(client, incarnation, version), welcome(client, 7, incarnation, version))
+            peer.expect(hello(13), refused(4, current=9))
+            for line in map(members_of, FIRST_RECORD.read_bytes().splitlines()):
+                demand(reply_of(line["asked"]) == self.asked[key_of(line["asked"])], f"the record and the account differ: {line}")
+                self.expect(peer, key_of(line["told"]), reply_of(line["told"]))
+            peer.expect(hello(OTHER), welcome(OTHER, 7))
+            for number, (call, reply) in enumerate(ASKED, 1):
+                key = Key(7, OTHER, 1, number)
+                self.asked[key] = call
+                self.expect(peer, key, reply)
+            for client, reply in WAITED.items():
+                self.expect(peer, Key(7, client, 1, 1), reply)
+            host.judged(self.asked, self.heard)
+        self.check_equal("the epoch before it", account_file(self.store, 5).read_bytes(), others)
+
+    def test_version_1_verified(self) -> None:
+        """`rv verify` finds it legal, and each reply of the record in it."""
+        count = FIRST_RECORD.read_bytes().count(b"\n")
+        found = [f"{number} kept" for number in range(1, count + 1)]
+        got = ran(self.program, "verify", str(FIRST_STORE), "--replies", str(FIRST_RECORD))
+        wanted = joined(["legal", *found, *counted(count)])
+        self.check_equal("what it prints", (got.stdout, got.stderr, got.returncode), (wanted, "", 0))
+
+
 def load_tests(loader: unittest.TestLoader, _: unittest.TestSuite, __: str | None) -> unittest.TestSuite:
     """The cases, some at a time, within systems."""
-    classes: list[type[Case]] = [Locks, Epochs, Files, Disks]
+    classes: list[type[Case]] = [Locks, Epochs, Files, Disks, Opened]
     return InSystems([SideBySide([case for one in classes for case in loader.loadTestsFromTestCase(one)])])
