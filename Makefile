@@ -60,10 +60,11 @@ deb: build
 package-test: deb
 	@python3 -B -m tests.package.tried out/rv_*_amd64.deb $(BARE)
 
-# what a machine and rv verify take as entries grow, and what a machine holds; what a hub's connection holds and its events cost; the
-# instructions of a line, if valgrind is there;
+# what a machine and rv verify take as entries grow, and what a machine holds; what a hub's connection holds and its events cost; a
+# journal's piece, and a start of a store after 10,000,000 entries; the instructions of a line, if valgrind is there;
 # lines a second and memory a line, beside a plain loop that reads and writes the same JSON; what a line costs in full tables,
-# with OLD=PROGRAM beside that of another build; and rv host beside redis-server and that build, and what its status page costs
+# with OLD=PROGRAM beside that of another build; and rv host, with an account and a store too, beside redis-server and that build,
+# and what its status page costs. What is synced is in out/, which has to be on a disk
 bench: build
 	@command -v python3 > /dev/null || { echo "python3 is missing: the measurement is written in it" >&2; exit 1; }
 	@tools/build.py rv_steps
@@ -71,7 +72,7 @@ bench: build
 	@tools/bench/held.py $(STEPS)
 	@tools/bench/hubs.py $(STEPS)
 	@tools/bench/journal.py $(STEPS)
-	@tools/bench/store.py $(STEPS)
+	@tools/bench/store.py $(PROGRAM) $(STEPS)
 	@tools/bench/verified.py $(PROGRAM)
 	@tools/bench/instructions.py $(PROGRAM) $(STEPS)
 	@tools/bench/bench.py $(PROGRAM) $(STEPS) $(if $(OLD),--old $(OLD))

@@ -108,7 +108,7 @@ LATE = [
     (False, "what a run leaves behind, for each of its outcomes"),
     (False, "`giver_behind` and `behind` search by halves"),
 ]
-counts = collections.Counter()
+counts: collections.Counter[bool] = collections.Counter()
 
 
 def check(holds, what):
@@ -153,7 +153,8 @@ def quoted(cell):
 
 def sections(path: pathlib.Path) -> Iterator[Tuple[str, List[str]]]:
     """The headings of a document, without their marks, each with the lines up to the next one."""
-    heading, lines = "", []
+    heading = ""
+    lines: List[str] = []
     for line in prose(path):
         if re.match(r"#+ ", line):
             yield heading, lines

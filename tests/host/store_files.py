@@ -1,5 +1,5 @@
-"""A store's folder and its files: who has it, which epoch a start gets, which files are refused, what a full disk leaves, and that a
-store of each format opens."""
+"""A store's folder and its files: who has it, which epoch a start gets, which files are refused, what a full disk leaves, and
+that a store of each format opens."""
 from __future__ import annotations
 
 import contextlib
@@ -21,7 +21,8 @@ from tests.model.account import Key, Request
 from tests.sockets.accounts import call_members, read_account
 from tests.sockets.ledger import Asked, Told
 from tests.sockets.wire import (
-    Members, Peer, demand, drain, frame, give, hello, key_of, members_of, refused, replied, reply_of, request, swap, take, welcome)
+    Members, Peer, demand, drain, frame, give, hello, key_of, members_of, refused, replied, reply_of, request, swap, take,
+    welcome)
 
 # The greatest epoch.
 MOST = 2**53 - 1
@@ -42,8 +43,8 @@ BAD = [
     ("no legal account: rv verify tells where", FORMAT + HEAD_OF_7 + b"none\n" + ROOM),
     ("no legal account: rv verify tells where", FORMAT + HEAD_OF_7 + b"0 0 tick\n" + ROOM),
 ]
-# A store of the format's version 1, which was written by hand from FORMATS, and the last replies that its clients were told. In it four
-# requests wait; one of them is over since long.
+# A store of the format's version 1, which was written by hand from FORMATS, and the last replies that its clients were told. Four
+# requests wait in it, one of which is long over.
 FIRST_STORE, FIRST_RECORD = ROOT / "examples/store-1", ROOT / "examples/store-1.jsonl"
 # Its sessions, as client, incarnation and version; and how many entries it has.
 SESSIONS, ENTRIES = [(1, 1, 2), (2, 1, 1), (13, 9, 1), (15, 1, 2), (17, 1, 1)], 42

@@ -77,7 +77,7 @@ def number(digits: str) -> int:
 
 def profile(rows: Iterable[str]) -> Profile:
     """What the annotator tells. The types of generic functions are left out of their names."""
-    told, callers = Profile(), Counter()
+    told, callers = Profile(), Counter[str]()
     for row in rows:
         if total := TOTAL.fullmatch(row):
             told.total = number(total[1])

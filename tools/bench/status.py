@@ -113,7 +113,7 @@ class Bench:
 
 def middle(runs: list[Run]) -> Run:
     """The middle one of each number."""
-    return Run(*map(statistics.median, zip(*runs)))
+    return Run(*(statistics.median(numbers) for numbers in zip(*runs)))
 
 
 def measure(bench: Bench) -> None:

@@ -39,7 +39,7 @@ class Cost:
 def requests(entries: int) -> Iterator[tuple[int, str, str, str]]:
     """The requests of a legal account of so many entries, behind the hellos: each one's place, partner, body and reply's body. They
     are puts until enough is open, then a put and a take in turn."""
-    numbers, places = [0] * CLIENTS, collections.deque()
+    numbers, places = [0] * CLIENTS, collections.deque[int]()
     for place in range(CLIENTS, entries):
         turn = place % CLIENTS
         numbers[turn] += 1
@@ -80,6 +80,7 @@ def cost(program: str, entries: int, *words: str, told: int = 1) -> Cost:
     input is told only behind the last look at its memory."""
     before, all_lines = os.times(), lines(entries)
     with subprocess.Popen([program, "verify", "-", *words], stdin=subprocess.PIPE, stdout=subprocess.PIPE) as process:
+        assert process.stdin
         while piece := "".join(itertools.islice(all_lines, PIECE)):
             process.stdin.write(piece.encode())
         process.stdin.flush()
