@@ -23,7 +23,7 @@ pub const STANDARD_INPUT: &str = "-";
 /// What the words of `rv verify` say.
 #[derive(Clone, Copy)]
 pub struct VerifyWords<'a> {
-    /// The account's file, or `-` for standard input.
+    /// The account's file, the folder of a store, or `-` for standard input.
     pub file: &'a str,
     /// The file of a record of replies, if one is named.
     pub replies: Option<&'a str>,

@@ -20,7 +20,7 @@ A worker is a loop over `Session.items`, which another thread or a signal's hand
 Each session has a client number of its own, which it leases among the programs of one user on one host. Hosts that share a
 server part the numbers by RV_CLIENTS in their environments: 1-512 and 513-1024, say.
 
-A server that is started anew ends the session; `Session(address, renew=True)` then begins anew by itself.
+A server that is started anew without a store ends the session; `Session(address, renew=True)` then begins anew by itself.
 
 `Session(address, record=FILE)`, or RV_RECORD in the environment, keeps a record of what the session was told: each reply has its
 line in that file before its call returns.

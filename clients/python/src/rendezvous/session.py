@@ -64,9 +64,9 @@ class Session:
     the line of those who wait. `last`, `unsettled` and `again` tell of one piece; a cancel between two is `Cancelled` without a
     key.
 
-    A server that is started anew ends the session. With `renew` it begins anew by itself, in the new epoch, under its client
-    number and a greater incarnation: a call that certainly nobody met, or that only looks (`count`, `peek`), goes on there.
-    One that may have been met is `EpochEnded`, and the next call begins anew. No incarnation is given then, and no other
+    A server that is started anew without a store ends the session. With `renew` it begins anew by itself, in the new epoch, under
+    its client number and a greater incarnation: a call that certainly nobody met, or that only looks (`count`, `peek`), goes on
+    there. One that may have been met is `EpochEnded`, and the next call begins anew. No incarnation is given then, and no other
     process may have the client number: the session would take it back.
     """
 

@@ -31,9 +31,10 @@ import java.util.function.LongFunction;
  * run at a time, however many threads there are. A thread gets the session of its last call again, unless another thread
  * took it meanwhile. One whose request is unsettled is nobody's, and stands in {@link #unsettled} until it is settled.
  *
- * <p>A server that is started anew ends the sessions that it had. A call is then asked again, in a new session of the new epoch,
- * where it is certain that nobody met its request, and where it only looks: sizes, waiting consumers, a peek. So these don't fail
- * for a restart. Any other call is {@link RvException.EpochEnded}, and the thread's next one has a new session.
+ * <p>A server that is started anew without a store ends the sessions that it had. A call is then asked again, in a new session
+ * of the new epoch, where it is certain that nobody met its request, and where it only looks: sizes, waiting consumers, a peek.
+ * So these don't fail for a restart. Any other call is {@link RvException.EpochEnded}, and the thread's next one has a new
+ * session.
  *
  * <p>They keep a {@linkplain Builder#record record} of what they were told, where a file is chosen for that.
  *
