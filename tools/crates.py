@@ -1,7 +1,7 @@
 #!/usr/bin/env python3
-"""Writes what the documents say of all crates from two sources: the sections of crates.txt, and each crate's one sentence, the first
-of the comment that its src/lib.rt or src/main.rt begins with. It writes crates/README.md, the first paragraph of each crate's page,
-and the order and the purposes in ARCHITECTURE's table of crates: there a long sentence is cut at its first colon or semicolon, or at its first comma.
+"""Writes what the documents say of all crates from two sources: the sections of crates.txt, and each crate's one sentence, the
+first of the comment that its src/lib.rt or src/main.rt begins with. It writes crates/README.md, in which the number of lines that
+a crate may have stays as it is, and the first paragraph of each crate's page.
 
 usage: tools/crates.py [--check]
 
@@ -14,16 +14,17 @@ import textwrap
 from typing import Dict, Iterator, List, NamedTuple, Tuple
 
 ROOT = pathlib.Path(__file__).resolve().parents[1]
-CRATES, ARCHITECTURE = ROOT / "crates", ROOT / "docs/ARCHITECTURE.md"
-# How wide a line of a document is at most, and how many words a sentence may have that ARCHITECTURE's table has whole.
-WIDTH, WHOLE = 128, 10
+CRATES = ROOT / "crates"
+INDEX = CRATES / "README.md"
+# How wide a line of a document is at most.
+WIDTH = 128
 INDEX_HEAD = """# The crates
 
-The lowest first; `crates.txt` says which stand on which. Each sees only the contracts of those below it.
+The lowest first, each with how many lines its `src` may have; `crates.txt` says which stand on which. Each sees only the
+contracts of those below it.
 """
-# The header of ARCHITECTURE's table with the line below it, and a row: the crate, with or without a link, its purpose, its limit.
-TABLE_HEAD = "| Crate | Purpose | Lines at most |\n|---|---|---|\n"
-TABLE_ROW = re.compile(r"\| \[?(rv_\w+)\]?[^|]*\|.*\| ([\d,]+) \|")
+# What a row begins with: the crate, with or without a link, and its lines at most.
+INDEX_ROW = re.compile(r"^- \[?(rv_\w+)(?:\]\([^)]*\))? \(([\d,]+)\): ", re.MULTILINE)
 
 
 class Wrong(Exception):
@@ -63,12 +64,9 @@ def sentence(crate: str) -> str:
     return found[0]
 
 
-def purpose(crate: str) -> str:
-    """What ARCHITECTURE's table says of a crate."""
-    text = sentence(crate).rstrip(".")
-    for mark in (r"[:;] ", ", "):
-        text = text if len(text.split()) <= WHOLE else re.split(mark, text)[0]
-    return text
+def limits() -> Dict[str, str]:
+    """How many lines each crate may have, by crates/README.md as it is."""
+    return dict(INDEX_ROW.findall(INDEX.read_text(encoding="utf-8")))
 
 
 def wrapped(text: str, indent: str = "") -> str:
@@ -78,16 +76,19 @@ def wrapped(text: str, indent: str = "") -> str:
 
 def index(found: List[Section]) -> str:
     """The text of crates/README.md."""
-    parts = [INDEX_HEAD]
+    parts, most = [INDEX_HEAD], limits()
+    lacking = [crate for section in found for crate in section.crates if crate not in most]
+    if lacking:
+        raise Wrong(f"crates/README.md has no row for {', '.join(lacking)}, with its lines at most: - NAME (LINES): ..")
     for section in found:
-        rows = [wrapped(f"- {linked(crate, '')}: {sentence(crate)}", "  ") for crate in section.crates]
+        rows = [wrapped(f"- {linked(crate)} ({most[crate]}): {sentence(crate)}", "  ") for crate in section.crates]
         parts.append("\n".join([f"## {section.title}", "", *rows, ""]))
     return "\n".join(parts)
 
 
-def linked(crate: str, to_crates: str) -> str:
+def linked(crate: str) -> str:
     """A crate's name, which leads to its page if it has one."""
-    return f"[{crate}]({to_crates}{crate}/README.md)" if (CRATES / crate / "README.md").exists() else crate
+    return f"[{crate}]({crate}/README.md)" if (CRATES / crate / "README.md").exists() else crate
 
 
 def page(crate: str) -> str:
@@ -98,24 +99,11 @@ def page(crate: str) -> str:
     return "\n\n".join([head, wrapped(sentence(crate)), body] if body else [head, wrapped(sentence(crate)) + "\n"])
 
 
-def architecture(crates: List[str]) -> str:
-    """The text of ARCHITECTURE, with a row for each crate in its table."""
-    before, head, rest = ARCHITECTURE.read_text(encoding="utf-8").partition(TABLE_HEAD)
-    rows, gap, after = rest.partition("\n\n")
-    limits: Dict[str, str] = {row[1]: row[2] for row in map(TABLE_ROW.fullmatch, rows.split("\n")) if row}
-    lacking = [crate for crate in crates if crate not in limits]
-    if lacking or not head:
-        raise Wrong(f"ARCHITECTURE: the table of crates has no row for {', '.join(lacking)}, with its lines at most")
-    made = [f"| {linked(crate, '../crates/')} | {purpose(crate)} | {limits[crate]} |" for crate in crates]
-    return before + head + "\n".join(made) + gap + after
-
-
 def written() -> Iterator[Tuple[pathlib.Path, str]]:
     """Each file that is written, with the text that it is to have."""
     found = sections()
     crates = [crate for section in found for crate in section.crates]
-    yield CRATES / "README.md", index(found)
-    yield ARCHITECTURE, architecture(crates)
+    yield INDEX, index(found)
     for crate in crates:
         if (CRATES / crate / "README.md").exists():
             yield CRATES / crate / "README.md", page(crate)

@@ -19,6 +19,7 @@ ROOT = pathlib.Path(__file__).resolve().parents[1]
 sys.dont_write_bytecode, sys.path[0] = True, str(ROOT)
 from tools.edit_files import Edit, public_functions  # noqa: E402
 from tests.catalog import BY_NAME, MODULES  # noqa: E402
+from tools.crates import limits as limits_of_crates  # noqa: E402
 
 MODEL = ROOT / "docs/MODEL.md"
 FORMATS = ROOT / "docs/FORMATS.md"
@@ -409,20 +410,17 @@ def commands():
 
 
 def sizes():
-    """ARCHITECTURE has a row for each crate, with how many lines it may have: none has more."""
-    wanted = ["Crate", "Lines at most"]
-    rows = [dict(zip(header, row)) for header, rows in tables(ARCHITECTURE) if set(wanted) <= set(header) for row in rows]
-    named = sorted(re.sub(r"\([^)]*\)|[\[\]]", "", row["Crate"]) for row in rows)
+    """crates/README.md has a row for each crate, with how many lines it may have: none has more."""
+    most = limits_of_crates()
     crates = sorted(path.name for path in ROOT.glob("crates/rv_*"))
-    check(named == crates, f"ARCHITECTURE: the rows are of {named}, and not of {crates}")
-    for row in rows:
-        crate = re.sub(r"\([^)]*\)|[\[\]]", "", row["Crate"])
+    check(sorted(most) == crates, f"crates/README.md: the rows are of {sorted(most)}, and not of {crates}")
+    for crate, limit in most.items():
         lines = sum(len(path.read_text().split("\n")) - 1 for path in ROOT.glob(f"crates/{crate}/src/**/*.rt"))
-        check(lines <= (greatest(row["Lines at most"]) or 0), f"{crate} has {lines} lines, and may have {row['Lines at most']}")
+        check(lines <= (greatest(limit) or 0), f"{crate} has {lines} lines, and may have {limit}")
 
 
 def sentences() -> None:
-    """Each crate's page, crates/README.md and ARCHITECTURE say of the crates what tools/crates.py writes."""
+    """Each crate's page and crates/README.md say of the crates what tools/crates.py writes."""
     ran = subprocess.run([ROOT / "tools/crates.py", "--check"], capture_output=True, text=True)
     check(ran.returncode == 0, (ran.stdout + ran.stderr).strip())
 
