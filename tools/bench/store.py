@@ -22,6 +22,7 @@ ROOT = pathlib.Path(__file__).resolve().parents[2]
 sys.dont_write_bytecode, sys.path[0] = True, str(ROOT)
 from tests.host.stored import Start, StoreHost, account_file  # noqa: E402
 from tests.host.watch import memory, most_memory  # noqa: E402
+from tests.journal.store import FORMAT  # noqa: E402
 from tools.bench import disks  # noqa: E402
 from tools.bench.verified import CLIENTS, PIECE, lines  # noqa: E402
 
@@ -40,7 +41,7 @@ class Took(NamedTuple):
 def made(folder: pathlib.Path, entries: int) -> int:
     """Writes the account of so many entries as a store's; its bytes."""
     with account_file(folder, 1).open("wb") as file:
-        file.write(b"journal 1 ")
+        file.write(FORMAT)
         all_lines = lines(entries)
         while piece := "".join(itertools.islice(all_lines, PIECE)):
             file.write(piece.encode())
