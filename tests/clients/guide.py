@@ -9,7 +9,7 @@ import tempfile
 import xml.dom.minidom
 
 from context import numbers
-from tests import ROOT
+from tests import ROOT, left_out
 from tests.clients import java
 from tests.clients.table_cases import cases
 from tests.sockets.programs import free_port
@@ -52,6 +52,8 @@ def begin_soon(folder):
 def the_guide(program: str) -> None:
     """Each block that is not marked as typed by hand prints what is shown behind it."""
     lacking, port = java.missing(), str(free_port())
+    if lacking:
+        left_out.tell("the guide's blocks in Java", lacking)
     with tempfile.TemporaryDirectory(prefix="rv-guide-") as name:
         folder = pathlib.Path(name)
         for part in ("clients", "examples", "tools"):
