@@ -75,7 +75,7 @@ class Boots(UnsyncedCase):
         """A start goes on in this epoch, knows all of it, and leaves this note."""
         name = " ".join(options)
         with self.started(*options) as host:
-            self.check_equal(f"{name}: it goes on", host.start, Start(epoch, self.entries(epoch)))
+            demand(host.start == Start(epoch, self.entries(epoch)), f"{name}: it starts with {host.start}")
             self.check_equal(f"{name}: its note", self.note(), note)
             self.put(host)
 
@@ -83,8 +83,8 @@ class Boots(UnsyncedCase):
         """A start begins a greater epoch, says why, leaves this note and all other files; the epoch."""
         name, before = " ".join(options), self.held()
         with self.started(*options) as host:
-            self.check_equal(f"{name}: it begins", host.start, Start(host.epoch, None, why))
-            self.check(f"{name}: its epoch", all(host.epoch > key.epoch for key in self.puts), host.epoch)
+            demand(host.start == Start(host.epoch, None, why), f"{name}: it starts with {host.start}")
+            demand(all(host.epoch > key.epoch for key in self.puts), f"{name}: it begins {host.epoch}")
             self.check_equal(f"{name}: its note", self.note(), note)
             self.put(host)
             host.kill()
