@@ -26,7 +26,7 @@ UNKNOWN = "in which boot the machine is isn't known, so what was not synced may 
 # In a name space of its own the system tells no boot: the file that would is empty.
 HIDDEN = """exec unshare -rm sh -c 'mount --bind /dev/null /proc/sys/kernel/random/boot_id && exec "$@"' sh"""
 # How many crowds, and how many cuts of the power, the gate tries.
-CROWDS, CUTS = 1, 6
+CROWDS, CUTS = 1, 9
 # How often a start asks something of the disk where it goes on and notes the boot.
 GOES_ON = 9
 
