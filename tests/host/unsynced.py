@@ -22,7 +22,7 @@ from tests.sockets.wire import demand, give, hello, replied, request, welcome
 
 # Why a new epoch begins.
 BOOTED = "the one before was not synced, and the machine was booted since"
-UNKNOWN = "in which boot the machine is isn't known, so what was not synced may be lost"
+UNKNOWN = "the machine's boot isn't known, and what was not synced may be lost"
 # In a name space of its own the system tells no boot: the file that would is empty.
 HIDDEN = """exec unshare -rm sh -c 'mount --bind /dev/null /proc/sys/kernel/random/boot_id && exec "$@"' sh"""
 # How many crowds, and how many cuts of the power, the gate tries.

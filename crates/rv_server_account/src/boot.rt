@@ -58,9 +58,7 @@ impl Boots {
         match self.current {
             _ if lets_go_on => None,
             Some(_) => Some("the one before was not synced, and the machine was booted since"),
-            None => Some(
-                "in which boot the machine is isn't known, so what was not synced may be lost",
-            ),
+            None => Some("the machine's boot isn't known, and what was not synced may be lost"),
         }
     }
 
