@@ -33,6 +33,7 @@ MODULES = [
     "faults.hub_growths",
     "sockets.serve",
     "host.run",
+    "host.run_stores",
     "host.stores",
     "host.store_files",
     "host.power_cuts",

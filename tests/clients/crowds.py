@@ -17,9 +17,9 @@ from tests.clients.outcomes import answer_members
 from tests.clients.proxy import Proxy
 from tests.clients.records import Ended, Reader, judged, judged_java
 from tests.sockets.cases import DOUBLE
-from tests.sockets.driver import drive
+from tests.sockets.driver import drive, run_at_once
 from tests.sockets.ledger import Ledger
-from tests.sockets.hosts import serving
+from tests.sockets.hosts import kills, serving
 from tests.sockets.wire import PATIENCE, demand, key_of, reply_of
 
 PYTHONS, JAVAS, WORKERS = 6, 4, 48
@@ -162,7 +162,8 @@ def a_crowd(program, seed, seconds, at_all_events=AT_ALL_EVENTS):
                    for number in range(1, PYTHONS + 1)]
         if not java.missing():
             clients.append(lambda: java_crowd(proxy.port, seconds, seed, ledger, record))
-        drive(server, ledger, clients, limit=seconds + 2 * LONGER, calm=proxy.close, end=server.use_up)
+        drive(server, ledger, clients, beside=kills(server, chance), limit=seconds + 2 * LONGER, calm=proxy.close, end=server.use_up)
+        demand(not proxy.forgets(), f"clients were refused, by number: {proxy.forgets()}")
         recorded = len(lines_of(record))
         demand(recorded == len(ledger.asked), f"{len(ledger.asked)} calls were told, and {recorded} are recorded")
         server.keeps(record.read_bytes())
@@ -178,9 +179,12 @@ def at_the_double():
 
 def beside_the_jdk(program, seed, scripts):
     """The JDK's own classes and those of the server, on random scripts."""
-    with serving(program, 8, 20_000) as server:
-        server.connect().close()
-        words = java.command("rendezvous.BesideJdk", server.port, scripts, seed)
+    def agree():
         ran = subprocess.run(words, capture_output=True, text=True, timeout=900)
         wanted = f"{scripts} scripts, the same outcomes\n"
         demand((ran.stdout, ran.stderr) == (wanted, ""), f"{ran.stdout[:2000]} {ran.stderr[:2000]}")
+
+    with serving(program, 8, 20_000) as server:
+        server.connect().close()
+        words = java.command("rendezvous.BesideJdk", server.port, scripts, seed)
+        run_at_once([agree], kills(server, random.Random(seed)), LONGER)

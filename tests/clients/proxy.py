@@ -1,5 +1,7 @@
 """A link that loses, repeats, cuts and delays, between clients and a server: it meddles with frames on their
 way."""
+import collections
+import json
 import random
 import socket
 import threading
@@ -10,6 +12,8 @@ from tests.sockets.wire import PATIENCE, frame
 
 # What becomes of a frame, and how often. The server's answers know the first four alone.
 FATES = {"pass": 80, "delay": 6, "lose": 4, "cut": 4, "twice": 4, "late": 2}
+# What no client is refused whose server forgot nothing: no session, other call, busy, gap, other version.
+FORGETFUL = (3, 6, 7, 8, 12)
 
 
 class Proxy(Listening):
@@ -21,6 +25,12 @@ class Proxy(Listening):
         self.server, self.chance, self.most = server, random.Random(seed), connections
         self.calm, self.met = False, dict.fromkeys(FATES, 0)
         self.ends, self.copies = [], []
+        # the refusals that clients were sent, by their numbers
+        self.refused = collections.Counter()
+
+    def forgets(self):
+        """The refusals that clients were sent of a server that forgot something."""
+        return {code: count for code, count in self.refused.items() if code in FORGETFUL}
 
     def close(self):
         """Behind the end no connection to the server is made, and each late copy has come there."""
@@ -57,6 +67,8 @@ class Proxy(Listening):
         """Carries frames one way until the connection ends, or is ended."""
         try:
             while (body := body_of(source)) is not None:
+                if b'"kind":"refused"' in body:
+                    self.refused[json.loads(body)["code"]] += 1
                 if not self.deliver(self.fate(fates), sink, frame(body)):
                     break
         except OSError:

@@ -1,6 +1,5 @@
 """Crowds of clients at a server to which the system is hostile, until each client has its reply to each request."""
 import functools
-import os
 import random
 import signal
 import threading
@@ -12,6 +11,7 @@ from tests.model.account import Key
 from tests.sockets import crowds
 from tests.sockets.crowds import take_the_rest
 from tests.sockets.driver import drive
+from tests.sockets.hosts import kills
 from tests.sockets.ledger import Ledger
 from tests.sockets.programs import Served
 from tests.sockets.wire import Members, demand, hello, members_of
@@ -72,14 +72,15 @@ def crowd_after_crowd(program: str, words: str, size: int, beside: Beside | None
 
 def one_crowd(program: str, chance: random.Random, size: int, beside: Beside | None = None, **odds: int) -> System:
     """A crowd while the system is hostile so, and what must hold behind it. `beside` is done with the server meanwhile,
-    until an event is set. It gives the system."""
+    until an event is set, and a host that keeps a store is killed and started anew. It gives the system."""
     system, ledger = System(chance.randrange(2**31)), Ledger()
     with hostile_serving(program, system, size + 1, epoch=chance.choice([1, 7, 2**53 - 1])) as server:
         server.connect().close()
         clients = [Stubborn(server, ledger, number, random.Random(chance.random())) for number in range(1, size + 1)]
         system.be(**odds)
+        also = [functools.partial(beside, chance, server)] if beside else []
         drive(server, ledger, [client.run for client in clients], calm=system.be, end=server.no_more,
-              beside=[functools.partial(beside, chance, server)] if beside else [],
+              beside=[*also, *kills(server, random.Random(chance.random()))],
               rest=lambda: take_the_rest(server, ledger, size + 1))
     return system
 
@@ -122,11 +123,11 @@ def stop_and_go(chance: random.Random, server: Served, done: threading.Event) ->
     try:
         while not done.is_set():
             time.sleep(chance.choice([0.001, 0.01, 0.05, 0.2]))
-            os.kill(server.process.pid, signal.SIGSTOP)
+            server.process.send_signal(signal.SIGSTOP)
             time.sleep(chance.choice([0, 0.001, 0.01, 0.1, 0.3]))
-            os.kill(server.process.pid, signal.SIGCONT)
+            server.process.send_signal(signal.SIGCONT)
     finally:
-        os.kill(server.process.pid, signal.SIGCONT)
+        server.process.send_signal(signal.SIGCONT)
 
 
 def stopped_and_gone_on(program: str, seed: int) -> None:

@@ -7,11 +7,11 @@ import os
 import struct
 import tempfile
 import unittest
-from collections.abc import Iterator
+from collections.abc import Callable, Iterator
 from typing import IO, Any, ClassVar
 
 from tests.faults import preload
-from tests.sockets.hosts import Host, HostProgram
+from tests.sockets.hosts import Host, HostProgram, Start
 from tests.sockets.programs import Server
 from tests.sockets.wire import Peer
 
@@ -132,6 +132,14 @@ class HostileHost(Host):
     def __init__(self, program: str, system: System, epoch: int | None = 1, **more: Any):
         self.system = system
         super().__init__(program, epoch, env=system.env, **more)
+
+    def start_again(self, between: Callable[[], object] | None = None) -> Start:
+        """It starts in a calm system, which is then as hostile as before."""
+        numbers = dict(zip(NUMBERS, self.system.numbers()))
+        self.system.be()
+        start = super().start_again(between)
+        self.system.be(**numbers)
+        return start
 
     def no_more(self) -> None:
         """The system is calm from now on, and the host serves one more: it does not end by itself."""

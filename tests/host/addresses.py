@@ -5,7 +5,7 @@ import contextlib
 import socket
 from collections.abc import Iterator
 
-from tests.host.counters import Counting
+from tests.host.counters import Counting, is_answering
 from tests.host.many import closing
 from tests.host.status import numbers, shows
 from tests.sockets.wire import PATIENCE, Peer, demand, frame, hello, until, welcome
@@ -31,7 +31,7 @@ def no_more_than_its_bound(program: str) -> None:
     """Who comes from an address that has as many as it may is closed; who comes from another is served, and from the first one
     again once one of its connections has ended."""
     with Counting(program, "--connections-from", str(MOST)) as host, contextlib.ExitStack() as stack:
-        until("it listens", lambda: numbers(host.status_port)["rv_connections"] == 0)
+        until("it answers", lambda: is_answering(host))
         mine = [stack.enter_context(come(host, HERE)) for _ in range(MOST)]
         greet(mine, 1)
         for _ in range(MORE):

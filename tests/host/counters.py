@@ -129,6 +129,8 @@ def lost_lines(program: str) -> None:
     """Where standard error takes no line, each line of the start that is said to a reader counts as lost."""
     with Counting(program) as host:
         until("it tells its status address", lambda: f"127.0.0.1:{host.status_port}/".encode() in host.said)
+        if host.store is not None:
+            host.told_start()
         said = host.said.count(b"\n")
     read, write = os.pipe()
     os.set_blocking(write, False)

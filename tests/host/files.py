@@ -17,7 +17,7 @@ from tests.host.counters import Counting
 from tests.host.status import numbers
 from tests.model.account import Key
 from tests.sockets.ledger import Asked, Told
-from tests.sockets.hosts import Host
+from tests.sockets.hosts import Host, StoreProgram
 from tests.sockets.programs import free_port
 from tests.sockets.wire import PATIENCE, demand, frame, give, replied, request, together, until
 
@@ -104,7 +104,7 @@ def told(program: str, change: Callable[[pathlib.Path], None]) -> None:
             peer.expect(request(key, give("put", "a")), replied(key, reply="done"))
             until("a second is over", lambda: numbers(host.status_port)["rv_uptime_seconds"] >= number + 1)
         demand(host.faults() == {} and SAID not in host.said, f"of a file in its place it counts {host.faults()}")
-        change(host.account)
+        change(host.file)
         until("it is told", lambda: SAID in host.said)
         key = Key(1, 1, 1, 3)
         peer.expect(request(key, give("put", "b")), replied(key, reply="done"))
@@ -114,8 +114,9 @@ def told(program: str, change: Callable[[pathlib.Path], None]) -> None:
 
 
 def not_in_its_place(program: str) -> None:
-    """The account's file is removed, renamed, another, or cut: each at a host of its own."""
-    together(*(lambda change=change: told(program, change) for change in (removed, renamed, another, cut)))
+    """The account's file is removed, renamed, another, or cut: each at a host of its own. A store's isn't looked at for its length."""
+    changes = [removed, renamed, another, *([] if isinstance(program, StoreProgram) else [cut])]
+    together(*(lambda change=change: told(program, change) for change in changes))
 
 
 def a_bound_of_files(program: str) -> None:

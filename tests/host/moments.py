@@ -72,8 +72,10 @@ class Stopped(HostileHost):
         return bool(seen("polls") == polls)
 
     def ticks(self) -> list[int]:
-        """The moments at which waits ended so far."""
-        return [int(moment) for moment in re.findall(rb"^(\d+) - tick$", self.written(), re.M)]
+        """The moments at which waits ended so far, from that of the first line on."""
+        first, _, entries = self.written().partition(b"\n")
+        opened = int(first.rpartition(b" ")[2])
+        return [int(moment) - opened for moment in re.findall(rb"^(\d+) - tick$", entries, re.M)]
 
 
 def waits_end_at_their_moment(program: str) -> None:
@@ -218,12 +220,12 @@ def samples_of_the_status(program: str) -> None:
     port = free_port()
     with Stopped(program, options=("--status", f"127.0.0.1:{port}")) as host:
         until("the host rests", host.rests)
-        head, calls = len(host.written()), [give("put", "a"), give("put", "b"), take("now")]
+        head, calls = host.counted(), [give("put", "a"), give("put", "b"), take("now")]
         with host.greeted(1) as peer:
             for number, call in enumerate(calls, 1):
                 peer.ask(request(Key(1, 1, 1, number), call))
         host.set(SAMPLE)
-        wanted = [[0, 0, 0, head], [SAMPLE // 1_000, 1 + len(calls), 1, len(host.written())]]
+        wanted = [[0, 0, 0, head], [SAMPLE // 1_000, 1 + len(calls), 1, host.counted()]]
         history = json.loads(told_at(host, port, SAMPLE))["history"]
         demand(history[:2] == wanted, f"the samples are {history}, not {wanted}")
         host.ended()

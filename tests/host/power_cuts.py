@@ -16,9 +16,10 @@ from typing import NamedTuple
 
 from tests.cases import SideBySide
 from tests.faults import preload
-from tests.host.stored import KilledHost, Start, StoreCase, StoreHost
+from tests.host.stored import KilledHost, StoreCase, StoreHost
 from tests.host.stores import under_kills
 from tests.model.account import Key
+from tests.sockets.hosts import Start
 from tests.sockets.ledger import Ledger
 from tests.sockets.wire import PATIENCE, demand, give, hello, replied, request, welcome
 

@@ -256,7 +256,7 @@ def a_worked_scene(program: str) -> None:
         shows(port, {"rv_connections": 0, "rv_connections_opened_total": host.made, "rv_clients": 2, "rv_open_places": 4,
                      "rv_entries_total": 6, "rv_epoch": host.epoch, "rv_clients_limit": 65_536,
                      "rv_connections_limit": 10_000, "rv_open_places_limit": 100_000,
-                     "rv_account_bytes_total": len(host.written())})
+                     "rv_account_bytes_total": host.counted()})
         until("the request is listed", lambda: listed(port) == [["take", 6, 2, 7, 1]], SOON)
         demand("<b>" not in page(port, "/status.json", JSON), "an item's text is told")
         host.ended()

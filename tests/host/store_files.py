@@ -15,10 +15,11 @@ from tests.commands.replies import counted, joined
 from tests.faults.system import InSystems, System
 from tests.host.files import bounded
 from tests.host.options import only, ran
-from tests.host.stored import Start, StoreCase, StoreHost, account_file
+from tests.host.stored import StoreCase, StoreHost
 from tests.journal.store import FORMAT, HEAD, ROOM, text_of
 from tests.model.account import Key, Request
 from tests.sockets.accounts import call_members, read_account
+from tests.sockets.hosts import Start, account_file
 from tests.sockets.ledger import Asked, Told
 from tests.sockets.wire import (
     Members, Peer, demand, drain, frame, give, hello, key_of, members_of, refused, replied, reply_of, request, swap, take,

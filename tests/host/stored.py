@@ -2,91 +2,27 @@
 from __future__ import annotations
 
 import pathlib
-import re
 import subprocess
 import tempfile
-import time
 from collections.abc import Callable
-from typing import Any, NamedTuple
+from typing import Any
 
 from tests.cases import Case
 from tests.faults.system import LossyPeer
-from tests.journal.store import FORMAT, text_of
-from tests.model.account import Account
-from tests.sockets.accounts import read_account
-from tests.sockets.hosts import Host
-from tests.sockets.programs import TRIES, Process
-from tests.sockets.wire import PATIENCE, Peer, Wrong, demand, until
-
-# The line by which it tells with which account it starts.
-STORE = re.compile(rb"store: (.+)/epoch-(\d+)\.account (?:goes on after (\d+) entries|begins(?:: (.+))?)\n")
-
-
-class Start(NamedTuple):
-    """With which epoch a host starts, and after how many entries its account goes on: None where it begins, by its own choice or for
-    a reason that it tells."""
-
-    epoch: int
-    entries: int | None
-    why: str | None = None
+from tests.sockets.hosts import Host, Start, StoreProgram
+from tests.sockets.wire import PATIENCE, demand, until
 
 
 class StoreHost(Host):
-    """A host that keeps the store of a folder. Its epoch is that of its start."""
+    """A host that keeps the store of a folder, which stays. Its epoch is that of its start."""
 
-    def __init__(self, program: str, store: pathlib.Path, *, options: tuple[str, ...] = (), **more: Any):
-        self.store, self.more = store, more
-        super().__init__(program, None, options=options, keeps=False, **more)
+    def __init__(self, program: str, store: pathlib.Path, **more: Any):
+        super().__init__(StoreProgram(program), None, store=store, **more)
         self.start = self.told_start()
 
-    def command(self) -> list[str]:
-        return ["host", "--listen", f"127.0.0.1:{self.port}", "--store", str(self.store), *self.options]
-
-    def told_start(self) -> Start:
-        """With what it starts, once it has told so. It may have ended since then."""
-        until("a host tells its store, or ends", lambda: STORE.search(self.said) or not self.runs())
-        if not self.runs():
-            self.status()
-        found = STORE.search(self.said)
-        if found is None or found[1] != bytes(self.store):
-            raise Wrong(f"a host that is to keep {self.store} says {self.said!r}")
-        self.epoch = int(found[2])
-        return Start(self.epoch, int(found[3]) if found[3] else None, found[4].decode() if found[4] else None)
-
-    def start_again(self, between: Callable[[], object] | None = None) -> None:
-        """Kills it, if it runs, and starts it anew at its address, behind what is done between."""
-        self.kill()
-        if between:
-            between()
-        for _ in range(TRIES):
-            Process.__init__(self, [self.program, *self.command()], **self.more)
-            if not self.taken():
-                break
-            # somebody looked whether the port is free
-            self.kill()
-        self.start = self.told_start()
-
-    @property
-    def file(self) -> pathlib.Path:
-        """The file of its account."""
-        return account_file(self.store, self.epoch)
-
-    def written(self) -> bytes:
-        return text_of(self.file.read_bytes()).removeprefix(FORMAT)
-
-    def ended(self, patience: float = PATIENCE) -> Account:
-        self.halt(patience)
-        account = read_account(self.written())
-        demand(account.epoch == self.epoch, "the account's first line is another")
-        return account
-
-    def keeps(self, record: bytes) -> None:
-        with tempfile.TemporaryDirectory(prefix="rv-verify-") as folder:
-            replies = pathlib.Path(folder, "replies")
-            replies.write_bytes(record)
-            words = [self.program, "verify", str(self.file), "--replies", str(replies)]
-            ran = subprocess.run(words, capture_output=True, timeout=4 * PATIENCE)
-        demand((ran.returncode, ran.stderr) == (0, b""), f"rv verify says {ran.stdout[-2_000:]!r} and {ran.stderr!r}")
+    def start_again(self, between: Callable[[], object] | None = None) -> Start:
+        self.start = super().start_again(between)
+        return self.start
 
     def stands(self, count: int) -> None:
         """Waits until so many requests stand in its account."""
@@ -94,23 +30,9 @@ class StoreHost(Host):
 
 
 class KilledHost(StoreHost):
-    """One that is killed while clients talk to it: who finds nobody at its address tries again."""
+    """One that is killed while clients talk to it."""
 
-    peer = LossyPeer
-
-    def connect(self, receive: int | None = None) -> Peer:
-        ends = time.monotonic() + PATIENCE
-        while True:
-            try:
-                return super().connect(receive)
-            except ConnectionError:
-                demand(time.monotonic() < ends, f"nobody listened for {PATIENCE} seconds")
-                time.sleep(0.005)
-
-
-def account_file(store: pathlib.Path, epoch: int) -> pathlib.Path:
-    """The file of an epoch's account in a store."""
-    return store / f"epoch-{epoch}.account"
+    peer, is_killed = LossyPeer, True
 
 
 class StoreCase(Case):

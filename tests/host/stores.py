@@ -15,11 +15,12 @@ from collections.abc import Callable
 from tests.cases import Case, SideBySide
 from tests.faults.crowds import Stubborn
 from tests.faults.system import InSystems, System
-from tests.host.stored import KilledHost, Start, StoreCase, StoreHost
+from tests.host.stored import KilledHost, StoreCase, StoreHost
 from tests.model.account import Account, Key, Tick
 from tests.model.account import reply as reply_in
 from tests.sockets.crowds import take_the_rest
 from tests.sockets.driver import drive
+from tests.sockets.hosts import Start
 from tests.sockets.ledger import Asked, Ledger, Told
 from tests.sockets.wire import Members, cancel, demand, frame, give, hello, refused, replied, request, swap, take, welcome
 

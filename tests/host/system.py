@@ -243,7 +243,8 @@ def a_clock_that_jumps(program: str) -> None:
                 in_its_own_frame(waits, wish, asked[wish], reply="item", item="a")
         most = 1_000 * (time.monotonic() - began) + 1_000 * PATIENCE
         account = host.judged(asked | looker.asked, [])
-        demand(account.entries[-1].moment < most, f"the last moment is {account.entries[-1].moment}")
+        last = account.entries[-1].moment - account.opened
+        demand(last < most, f"the last moment is {last}")
 
 
 def epochs_by_the_clock(program: str) -> None:

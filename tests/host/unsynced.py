@@ -14,9 +14,10 @@ from tests.faults import preload
 from tests.faults.system import InSystems
 from tests.host.options import only
 from tests.host.power_cuts import LIBRARY, SOURCE, Disk, killed_start
-from tests.host.stored import KilledHost, Start, StoreCase, StoreHost, account_file
+from tests.host.stored import KilledHost, StoreCase, StoreHost
 from tests.host.stores import under_kills
 from tests.model.account import Key
+from tests.sockets.hosts import Start
 from tests.sockets.ledger import Ledger
 from tests.sockets.wire import demand, give, hello, replied, request, welcome
 

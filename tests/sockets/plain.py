@@ -104,7 +104,7 @@ def a_hand_over(program: str) -> None:
 
 # The account of two clients, one after the other, without its moments.
 ONE_BY_ONE = [
-    b'epoch 1 opened 0',
+    b'epoch 1 opened',
     b'- {"client":1,"incarnation":1,"kind":"hello"}',
     b'- {"call":"put","client":1,"epoch":1,"incarnation":1,"item":"a","kind":"request","number":1,"queue":3}',
     b'- {"client":2,"incarnation":1,"kind":"hello"}',
@@ -124,7 +124,7 @@ def one_after_the_other(program: str) -> None:
         server.judged({put: give("put", "a"), poll: take("now")},
                       [(put, {"reply": "done"}), (poll, {"reply": "item", "item": "a"})])
         head, *entries = server.written().splitlines()
-        got = [head, *(line.partition(b" ")[2] for line in entries)]
+        got = [head.rpartition(b" ")[0], *(line.partition(b" ")[2] for line in entries)]
         demand(got == ONE_BY_ONE, f"the account is {server.written()!r}")
 
 

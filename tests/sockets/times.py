@@ -90,7 +90,8 @@ def moments_beside_a_clock(program: str) -> None:
                 spans.append((1000 * (sent - began), 1000 * (time.monotonic() - began)))
         account = server.judged(asked, [])
     moments = [entry.moment for entry in account.entries if isinstance(entry.act, Request)]
-    demand(moments[0] <= spans[0][1] + 1, f"moment {moments[0]} stands {spans[0][1]:.1f} milliseconds behind the start")
+    first_of_all = moments[0] - account.opened
+    demand(first_of_all <= spans[0][1] + 1, f"moment {first_of_all} stands {spans[0][1]:.1f} milliseconds behind the start")
     pairs = [*((at - 1, at) for at in range(1, PUTS)), (0, PUTS - 1)]
     for first, second in pairs:
         least, most = spans[second][0] - spans[first][1], spans[second][1] - spans[first][0]
