@@ -40,10 +40,12 @@ torture: build
 	@python3 -B -m tests faults.torture --seconds $(or $(SECONDS),3500) --program $(PROGRAM)
 
 # rv host under crowds on bad links, whose clients are killed, for ten minutes or SECONDS, beside 400 or PEERS peers that send without
-# end or take no answers; then 20,000,000 entries, or ENTRIES
+# end or take no answers; then 20,000,000 entries, or ENTRIES. With STORE, a folder that stays, under the crowds alone, and killed each
+# minute
 soak: build
 	@command -v python3 > /dev/null || { echo "python3 is missing: the script is written in it" >&2; exit 1; }
-	@python3 -B -m tests.host.soak $(PROGRAM) --seconds $(or $(SECONDS),600) --peers $(or $(PEERS),400) --entries $(or $(ENTRIES),20000000)
+	@python3 -B -m tests.host.soak $(PROGRAM) --seconds $(or $(SECONDS),600) $(if $(STORE),--store "$(STORE)") \
+	  --peers $(or $(PEERS),$(if $(STORE),0,400)) --entries $(or $(ENTRIES),$(if $(STORE),0,20000000))
 
 # the proved program, as PREFIX/bin/rv
 install: build

@@ -37,10 +37,11 @@ def kinds_of(count: int) -> dict[str, int]:
 
 @dataclass
 class Sender:
-    """A peer of one kind: who it is, its next request, what it hasn't sent yet of its piece, and its connection."""
+    """A peer of one kind: who it is, in which epoch, its next request, what it hasn't sent yet of its piece, and its connection."""
 
     kind: str
     client: int
+    epoch: int = 1
     incarnation: int = 0
     number: int = 1
     rest: bytes = b""
@@ -60,7 +61,7 @@ class Sender:
         """What it sends next."""
         if self.kind != "pipelines":
             return DEEP if self.kind == "nested" else TEXTS
-        keys = [Key(1, self.client, self.incarnation, self.number + more) for more in range(PIECE)]
+        keys = [Key(self.epoch, self.client, self.incarnation, self.number + more) for more in range(PIECE)]
         self.number += PIECE
         return b"".join(frame(request(key, {"call": "count", "queue": QUEUE})) for key in keys)
 
@@ -100,13 +101,13 @@ def send_on(port: int, senders: list[Sender], over: Event, sent: Any, place: int
 
 
 @contextlib.contextmanager
-def peers(port: int, counts: dict[str, int]) -> Iterator[Callable[[], dict[str, int]]]:
+def peers(port: int, counts: dict[str, int], epoch: int = 1) -> Iterator[Callable[[], dict[str, int]]]:
     """Until the block ends so many peers of each kind send on, each kind in a process of its own. It gives what tells how many bytes
     each kind has sent."""
     apart = multiprocessing.get_context("spawn")
     over, sent, running = apart.Event(), apart.Array("Q", len(counts), lock=False), []
     for place, (kind, count) in enumerate(counts.items()):
-        senders = [Sender(kind, FIRST + number) for number in range(count)]
+        senders = [Sender(kind, FIRST + number, epoch) for number in range(count)]
         running.append(apart.Process(target=send_on, args=(port, senders, over, sent, place), daemon=True))
     try:
         for process in running:

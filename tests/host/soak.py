@@ -5,11 +5,16 @@ The host must serve to the end, a hand-over be as prompt as at the start, the ac
 be within what --memory lets it be, and without them flat behind the first tenth. All of it stays on this machine's loopback, and stops
 by itself. The last line counts the parts.
 
-usage: python3 -m tests.host.soak PROGRAM [--seconds 600] [--peers 400] [--memory 16] [--entries 20000000]
+With --store the host keeps a store in that folder, in a new epoch, and is killed and started anew each minute: the epoch goes
+on, no client is told what only a server tells that forgot something, and memory is flat within runs and from run to run. The
+folder is made where it is missing, and stays.
+
+usage: python3 -m tests.host.soak PROGRAM [--seconds 600] [--peers 400] [--memory 16] [--entries 20000000] [--store FOLDER]
 """
 from __future__ import annotations
 
 import argparse
+import functools
 import os
 import pathlib
 import random
@@ -18,6 +23,7 @@ import subprocess
 import sys
 import tempfile
 import time
+from collections.abc import Callable
 
 from tests import ROOT
 from tests.clients.proxy import Proxy
@@ -26,7 +32,7 @@ from tests.host.peers import kinds_of, peers
 from tests.host.watch import memory, most_memory, processor
 from tests.model.account import Key
 from tests.sockets.cases import Count
-from tests.sockets.hosts import Host, HostProgram
+from tests.sockets.hosts import Host, HostProgram, Start, StoreProgram
 from tests.sockets.wire import demand, frame, give, replied, request, take
 from tests import left_out
 from tools.bench import driver
@@ -40,6 +46,8 @@ LINKS, TAKER, GIVER = 10**9, 60_001, 60_002
 MORE, MORE_BYTES, SLOWER, SLOWER_SECONDS = 1.10, 4 << 20, 2.0, 0.002
 # Peers that send without end, the MiB of --memory, and those by which the process may have more.
 PEERS, MEMORY, BESIDE = 400, 16, 40
+# The seconds after which a host that keeps a store is killed and started anew; in a short soak it is so many times.
+RUN, RUNS = 60, 3
 # Connections of the long load, requests in one piece, hand-overs that are measured in each tenth, and the clients of these.
 CONNECTIONS, PIECE, ROUNDS, FIRST, FIRST_OF_HANDS = 16, 16, 200, 1, 10_000
 # The seconds that `rv verify` may take.
@@ -75,7 +83,12 @@ class Probe:
     """A taker and a giver on links of their own, that are good."""
 
     def __init__(self, host: Host):
-        self.taker, self.giver, self.number, self.epoch = host.greeted(TAKER), host.greeted(GIVER), 0, host.epoch
+        self.number = 0
+        self.connect(host)
+
+    def connect(self, host: Host) -> None:
+        """Both go on over new links."""
+        self.taker, self.giver, self.epoch = host.greeted(TAKER), host.greeted(GIVER), host.epoch
 
     def seconds(self) -> float:
         """From the put to the item in the hands of the taker, which waits."""
@@ -130,41 +143,92 @@ class Crowd:
         return b"".join(text[: text.rfind(b"\n") + 1] for text in (path.read_bytes() for path in sorted(self.folder.iterdir())))
 
 
-def bad_links(program: HostProgram, seconds: float, seed: int, count: int, mebibytes: int) -> str:
+class Watched:
+    """What is measured of a host in a soak of so many seconds. One that keeps a store is killed again and again, and started
+    anew: then it is measured within its runs too."""
+
+    def __init__(self, host: Host, seconds: float):
+        self.host, self.seconds, self.probe, self.measured = host, seconds, Probe(host), Measured()
+        self.run = min(RUN, seconds / RUNS) if host.store is not None else seconds
+        self.within, self.starts = Measured(), [Start(host.epoch, None)]
+        # the most memory of each run, and the longest that nobody could connect
+        self.most: list[int] = []
+        self.longest = 0.0
+        self.began = self.started = time.monotonic()
+
+    def goes_on(self) -> bool:
+        """Whether the soak isn't over. A host whose run is over is killed and started anew."""
+        now = time.monotonic()
+        if now - self.began < self.seconds and now - self.started >= self.run:
+            self.start_again()
+        return now - self.began < self.seconds
+
+    def start_again(self) -> None:
+        """The host is killed, and goes on in its epoch after all entries that it went on after before, and more."""
+        self.most.append(most_memory(self.host.process.pid))
+        began, before = time.monotonic(), self.starts[-1]
+        after = self.host.start_again()
+        is_further = (after.entries or 0) > (before.entries or 0)
+        demand(after.epoch == before.epoch and is_further, f"after {before} it starts with {after}")
+        self.probe.connect(self.host)
+        self.starts.append(after)
+        self.started = time.monotonic()
+        self.longest = max(self.longest, self.started - began)
+
+    def look(self) -> None:
+        """Measures what the host has now, and how prompt it is."""
+        now, has, took = time.monotonic(), memory(self.host.process.pid), self.probe.seconds()
+        past, within = (now - self.began) / self.seconds, (now - self.started) / self.run
+        for measured, part in ((self.measured, past), (self.within, within)):
+            tenth = min(9, int(10 * part))
+            measured.memory[tenth].append(has)
+            measured.seconds[tenth].append(took)
+
+    def judge(self, bound: int | None) -> str:
+        """Memory and promptness over all of the soak are as they are to be; so they are within runs, and from run to run."""
+        self.measured.most = self.within.most = max(self.most)
+        told = self.measured.judge(bound)
+        if self.host.store is None:
+            return told
+        within, first, most = self.within.judge(bound), self.most[0], max(self.most)
+        demand(bound or most <= MORE * first + MORE_BYTES, f"the first run had {first} bytes at most, and a later one {most}")
+        return (f"{told}; within runs {within}; the first run had {first >> 10} KiB at most, and no later one more than {most >> 10}; "
+                f"{len(self.starts) - 1} kills, after each of which it was back within {self.longest:.2f} seconds")
+
+
+def bad_links(start: Callable[..., Host], seconds: float, seed: int, count: int, mebibytes: int) -> str:
     """Crowds on bad links, whose clients are killed, beside so many peers that send without end or take no answers."""
-    measured = Measured()
-    with tempfile.TemporaryDirectory(prefix="rv-soak-") as name, Host(program, options=("--memory", str(mebibytes))) as host:
-        with peers(host.port, kinds_of(count)) as sent, Proxy(host, seed, LINKS) as proxy:
+    with tempfile.TemporaryDirectory(prefix="rv-soak-") as name, start("--memory", str(mebibytes)) as host:
+        watched = Watched(host, seconds)
+        with peers(host.port, kinds_of(count), host.epoch) as sent, Proxy(host, seed, LINKS) as proxy:
             crowd = Crowd(proxy.port, pathlib.Path(name), random.Random(seed))
             try:
-                watched(host, crowd, seconds, measured)
+                under_watch(watched, crowd)
                 proxy.calm = True
                 crowd.end()
             finally:
                 for one in crowd.running.values():
                     one.kill()
             demand(all(sent().values()), f"of some kinds of peers nothing was sent: {sent()}")
+            demand(not proxy.forgets(), f"clients were refused, by number: {proxy.forgets()}")
         host.halt()
         record = crowd.records()
         entries, replies = verified(host, record), record.count(b"\n")
     beside = f", beside {count} peers that sent {sum(sent().values()) >> 20} MiB" if count else ""
-    told = measured.judge((mebibytes + BESIDE) << 20 if count else None)
+    told = watched.judge((mebibytes + BESIDE) << 20 if count else None)
     return f"{entries} entries, {replies} replies kept, {crowd.kills} clients killed{beside}; {told}"
 
 
-def watched(host: Host, crowd: Crowd, seconds: float, measured: Measured) -> None:
-    """For so many seconds a crowd's clients are killed one by one, and it is measured what the host has and how prompt it is."""
-    probe, began = Probe(host), time.monotonic()
-    killing = began + KILLED_EACH
-    while (past := time.monotonic() - began) < seconds:
-        tenth = int(10 * past / seconds)
-        measured.memory[tenth].append(memory(host.process.pid))
-        measured.seconds[tenth].append(probe.seconds())
+def under_watch(watched: Watched, crowd: Crowd) -> None:
+    """A crowd's clients are killed one by one beside what is measured."""
+    killing = time.monotonic() + KILLED_EACH
+    while watched.goes_on():
+        watched.look()
         if time.monotonic() >= killing:
             crowd.kill_one()
             killing += KILLED_EACH
         time.sleep(0.1)
-    measured.most = most_memory(host.process.pid)
+    watched.most.append(most_memory(watched.host.process.pid))
 
 
 def verified(host: Host, record: bytes) -> int:
@@ -172,18 +236,18 @@ def verified(host: Host, record: bytes) -> int:
     with tempfile.NamedTemporaryFile(prefix="rv-record-") as file:
         file.write(record)
         file.flush()
-        words = [host.program, "verify", str(host.account), *(["--replies", file.name] if record else [])]
+        words = [host.program, "verify", str(host.store or host.account), *(["--replies", file.name] if record else [])]
         ran = subprocess.run(words, capture_output=True, text=True, timeout=VERIFYING)
     demand(ran.returncode == 0 and ran.stdout.startswith("legal\n"), f"rv verify says {ran.stdout[-1_000:]} {ran.stderr[-1_000:]}")
-    with open(host.account, "rb") as account:
+    with open(host.file, "rb") as account:
         return sum(piece.count(b"\n") for piece in iter(lambda: account.read(1 << 20), b"")) - 1
 
 
-def many_entries(program: HostProgram, entries: int) -> str:
+def many_entries(start: Callable[[], Host], entries: int) -> str:
     """So many puts and takes by the compiled driver, which compares each answer; hand-overs between."""
     driver.built()
     measured, each, rates = Measured(), entries // 10, []
-    with Host(program) as host:
+    with start() as host:
         host.connect().close()
         for tenth in range(10):
             hands = driver.hand("rv", host.port, FIRST_OF_HANDS + 2 * tenth, 0, ROUNDS)
@@ -206,19 +270,31 @@ def main() -> None:
     parser.add_argument("--peers", type=int, default=PEERS, help="how many send without end or take no answers meanwhile; 0: none")
     parser.add_argument("--memory", type=int, default=MEMORY, help="the MiB of the host's --memory then")
     parser.add_argument("--entries", type=int, default=20_000_000, help="how many entries the second part makes; 0: none")
+    parser.add_argument("--store", type=pathlib.Path, help="the folder of the hosts' store; default: each keeps an account")
     parser.add_argument("--seed", type=int, default=random.randrange(10**6), help="default: any")
     asked = parser.parse_args()
     many.room()
-    program, count = HostProgram(os.path.abspath(asked.program)), Count("", True)
+    start, count = functools.partial(started, os.path.abspath(asked.program), asked.store), Count("", True)
     print(f"seed {asked.seed}", flush=True)
     if asked.seconds:
-        count.run("crowds on bad links", bad_links, program, asked.seconds, asked.seed, asked.peers, asked.memory)
+        count.run("crowds on bad links", bad_links, start, asked.seconds, asked.seed, asked.peers, asked.memory)
     lacking = driver.missing()
     if asked.entries and lacking:
         left_out.tell("the long load", lacking)
     elif asked.entries:
-        count.run("many entries", many_entries, program, asked.entries)
+        count.run("many entries", many_entries, start, asked.entries)
+    if asked.store:
+        print(f"the store is kept: {asked.store}")
     count.end()
+
+
+def started(program: str, store: pathlib.Path | None, *options: str) -> Host:
+    """A host that keeps an account, or a store in a folder, where a new epoch begins: clients of an earlier one may be there."""
+    if store is None:
+        return Host(HostProgram(program), options=options)
+    host = Host(StoreProgram(program), time.time_ns() // 1_000_000, store=store.absolute(), options=options)
+    host.told_start()
+    return host
 
 
 # the processes of the peers read this file too
