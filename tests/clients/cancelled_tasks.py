@@ -17,7 +17,8 @@ from record_lines import lines_of
 from rendezvous import aio
 from tests.model.account import Request
 from tests.model.tables import table_audit
-from tests.sockets.hosts import Host, HostProgram, serving
+from tests.sockets.driver import run_at_once
+from tests.sockets.hosts import Host, kills, serving
 from tests.sockets.wire import demand
 
 QUEUE, WORKERS = 3, 16
@@ -34,7 +35,9 @@ MANY_CLIENTS, EPOCH_CALLS = 20, 5_000
 # One of so many items is transferred, one of so many cancels has its close in the same step, and one of so many comes after some
 # steps of the event loop; so many cancelled calls has a session, and so many steps pass, at most. One of so many sessions says
 # its hello by its first call. A producer stands beside each so many clients.
-TRANSFER_EACH, CLOSE_EACH, STEP_EACH, LONGEST, STEPS, HELLO_EACH, GIVER_EACH = 4, 8, 4, 9, 200, 6, 4
+TRANSFER_EACH, CLOSE_EACH, STEP_EACH, MOST, STEPS, HELLO_EACH, GIVER_EACH = 4, 8, 4, 9, 200, 6, 4
+# What takes so many seconds doesn't end.
+LONGEST = 18_000
 
 
 class Producer:
@@ -81,6 +84,13 @@ async def takes(port, seed, how_many, record):
     return got, put, late
 
 
+def beside_kills(server, seed, work):
+    """What a coroutine gives, beside which a server that keeps a store is killed and started anew."""
+    gave = []
+    run_at_once([lambda: gave.append(asyncio.run(work))], kills(server, random.Random(seed)), LONGEST)
+    return gave[0]
+
+
 def cancelled_takes(program, seed, how_many=TAKES):
     """Each item is given once, in the order in which they were put, whether its take was cancelled or not."""
     began = time.monotonic()
@@ -88,7 +98,7 @@ def cancelled_takes(program, seed, how_many=TAKES):
             tempfile.TemporaryDirectory(prefix="rv-record-") as folder:
         server.connect().close()
         record = pathlib.Path(folder, "record")
-        got, put, late = asyncio.run(takes(server.port, seed, how_many, record))
+        got, put, late = beside_kills(server, seed, takes(server.port, seed, how_many, record))
         lines = lines_of(record)
     told = [line.reply["item"] for line in lines if line.reply["reply"] == "item"]
     demand(told == got, f"{len(got)} items were taken, and {len(told)} are recorded")
@@ -134,7 +144,7 @@ class Mixed:
         """One session: cancelled calls, others between them, and what stands after its end. Some begin with their hello."""
         if self.chance.randrange(HELLO_EACH):
             await one.connect()
-        for _ in range(self.chance.randrange(1, LONGEST)):
+        for _ in range(self.chance.randrange(1, MOST)):
             await self.cancels(one)
             for _ in range(self.chance.randrange(3)):
                 name, call = self.chance.choice(OTHERS)
@@ -230,9 +240,9 @@ def mixed_faults(crowd, account):
 
 def mixed_epoch(program, seed, clients, how_many, epoch=1):
     """One epoch of so many cancelled calls; what came of it."""
-    with Host(HostProgram(program), epoch) as server:
+    with Host(program, epoch) as server:
         server.connect().close()
-        crowd = asyncio.run(mixes(server.port, seed, clients, how_many))
+        crowd = beside_kills(server, seed, mixes(server.port, seed, clients, how_many))
         account = server.ended()
     fault, faults = table_audit(account), list(mixed_faults(crowd, account))
     demand(not fault, f"place {fault} of the account")

@@ -8,6 +8,7 @@ import collections
 import json
 import pathlib
 import random
+import re
 import signal
 import subprocess
 import sys
@@ -19,7 +20,8 @@ from tests import ROOT
 from tests.clients.interrupted_judged import LIMIT, Book, calls_of, faults_of, the_judge_finds_lies
 from tests.model.account import Request, reply
 from tests.model.tables import table_audit
-from tests.sockets.hosts import Host, serving
+from tests.sockets.driver import run_at_once
+from tests.sockets.hosts import Host, kills, serving
 from tests.sockets.wire import demand, together
 
 PROCESSES, WORKERS = 8, 64
@@ -33,6 +35,10 @@ LOOK_EACH = 0.25
 CALLS, FEW_CALLS, AT_ALL_EVENTS, EACH_CALL = 100_000, 4_000, 6_000, 0.8
 # The record that the sessions of all processes keep, and how each of its lines begins.
 KEPT, BEGINS = "kept", b'{"asked":{'
+# What a client logs of a server that is killed.
+UNREACHED = re.compile(r"127\.0\.0\.1:\d+: connection refused\n")
+# An epoch that takes so many seconds doesn't end.
+LONGEST = 60 * LIMIT
 # So many keys of an account are looked at by the plain model too, and a count or a peek where so few entries stand before:
 # there the model looks at each pair of them.
 SAMPLE, FEW = 20, 1_000
@@ -41,10 +47,10 @@ SAMPLE, FEW = 20, 1_000
 class One:
     """A process of the crowd, with its record."""
 
-    def __init__(self, port, client, incarnation, seed, calls, folder):
-        self.client, self.incarnation, self.calls = client, incarnation, calls
+    def __init__(self, server, client, incarnation, seed, calls, folder):
+        self.server, self.client, self.incarnation, self.calls = server, client, incarnation, calls
         self.path, self.said = (pathlib.Path(folder) / f"{client}.{incarnation}.{end}" for end in ("record", "said"))
-        words = [port, client, incarnation, seed, calls, self.path, pathlib.Path(folder, KEPT)]
+        words = [server.port, client, incarnation, seed, calls, self.path, pathlib.Path(folder, KEPT)]
         program = [sys.executable, "-B", "-m", "tests.clients.interrupted_process"]
         with open(self.said, "wb") as said:
             self.process = subprocess.Popen([*program, *map(str, words)], stdout=said, stderr=said, cwd=ROOT)
@@ -77,8 +83,10 @@ class One:
         return [json.loads(line) for line in text.split(b"\n")[:-1]]
 
     def ended(self):
-        """It must have ended well, unless it was killed."""
+        """It must have ended well, unless it was killed, and have said nothing but that it found no server, where that is killed."""
         status, said = self.process.wait(), self.said.read_text()
+        if isinstance(self.server, Host) and self.server.is_killed:
+            said = UNREACHED.sub("", said)
         demand(status in (0, -signal.SIGKILL) and not said, f"client {self.client} ended with {status}: {said[-3000:]}")
 
 
@@ -93,7 +101,7 @@ class Crowd:
 
     def start(self, client, incarnation, calls):
         """Starts a process."""
-        self.run.append(One(self.server.port, client, incarnation, self.chance.randrange(10**9), calls, self.folder))
+        self.run.append(One(self.server, client, incarnation, self.chance.randrange(10**9), calls, self.folder))
 
     def fire(self):
         """Fires until all have ended."""
@@ -193,7 +201,7 @@ def an_epoch(program, chance, epoch, calls, sums):
             serving(program, WORKERS, connections, epoch=epoch) as server:
         crowd = Crowd(server, chance, calls, folder)
         try:
-            crowd.fire()
+            run_at_once([crowd.fire], kills(server, random.Random(chance.random())), LONGEST)
         finally:
             crowd.end()
         sums["connections"] += connections - use_up(server)

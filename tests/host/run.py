@@ -136,14 +136,17 @@ def as_they_are() -> Iterator[Scenario]:
     yield from (scenario(case, tools=(JAVA,)) for case in receipts.WITH_JAVA)
 
 
-def of_a_seed(seed: int) -> Iterator[Scenario]:
-    """The cases that are random."""
+def of_a_seed(seed: int, part: float = 1) -> Iterator[Scenario]:
+    """The cases that are random, with such a part of what is long."""
+    def many_of(count: int) -> int:
+        return max(1, Case.fixture.many(round(part * count)))
+
     yield from (scenario(case, seed, is_random=True) for case in [*RANDOM, *HOSTILE])
     spoilt = next(case for case in mutants.CASES if case.__name__ == "spoilt_frames")
-    yield scenario(spoilt, seed, Case.fixture.many(SPOILT), is_random=True)
+    yield scenario(spoilt, seed, many_of(SPOILT), is_random=True)
     yield from (scenario(case, seed, is_random=True) for case in CLIENTS)
-    yield scenario(client_crowds.a_crowd, seed, CROWD * Case.fixture.times, is_random=True)
-    yield scenario(client_crowds.beside_the_jdk, seed, Case.fixture.many(SCRIPTS), is_random=True, tools=(JAVA,))
+    yield scenario(client_crowds.a_crowd, seed, part * CROWD * Case.fixture.times, is_random=True)
+    yield scenario(client_crowds.beside_the_jdk, seed, many_of(SCRIPTS), is_random=True, tools=(JAVA,))
 
 
 def load_tests(_: unittest.TestLoader, suite: unittest.TestSuite, __: str | None) -> unittest.TestSuite:

@@ -1,13 +1,16 @@
-"""The cases of `rv host` at hosts that keep a store: behind each the store is opened anew and goes on after all entries, and the hosts
-of crowds are killed and started anew in their midst."""
+"""The cases of `rv host` at hosts that keep a store. After each the store is opened anew, and goes on after all of its entries; the
+hosts of crowds are killed and started anew in their midst."""
 from __future__ import annotations
 
+import logging
 import unittest
 from collections.abc import Callable
 
 from tests.cases import Case, Scenario
-from tests.host import files, hostile, memory, options, run, status, system
+from tests.clients import interrupted, receipts
+from tests.host import files, hostile, memory, options, run, starts, status, system
 from tests.sockets import crowds
+from tests.sockets import hostile as noisy
 from tests.sockets.hosts import StoreProgram
 
 # What is left out. Of these no host serves, so that none keeps anything.
@@ -20,11 +23,15 @@ OF_ACCOUNTS: list[Callable[..., object]] = [
     options.accounts, system.a_disk_that_fills, system.no_room_to_start, system.killed, files.an_empty_file_is_taken,
     files.a_start_that_fails, files.a_bound_of_files,
 ]
-# These are long, and what they say of connections isn't of what is kept.
-LONG: list[Callable[..., object]] = [hostile.many_frames, memory.beside_many_who_send]
+# These are long: they are tried where more is tried than the gate tries.
+LONG: list[Callable[..., object]] = [
+    hostile.silent_connections, hostile.resets_at_each_byte, hostile.a_flood, hostile.many_frames, memory.beside_many_who_send,
+    starts.back_at_once, *noisy.CASES, *interrupted.CASES, *receipts.WITH_JAVA,
+]
 # The clients of these end where a connection breaks: those of the torture's crowds don't.
 UNBROKEN: list[Callable[..., object]] = [*crowds.CASES]
-LEFT_OUT = [*UNSERVED, *OF_ACCOUNTS, *LONG, *UNBROKEN]
+# Such a part is tried of what is long.
+PART = 0.2
 
 
 class AtAStore(Scenario):
@@ -37,9 +44,19 @@ class AtAStore(Scenario):
     def id(self) -> str:
         return f"{super().id()}_at_a_store"
 
+    def play(self) -> None:
+        """What clients here log of a host that is killed isn't told."""
+        log, quiet = logging.getLogger("rendezvous"), logging.NullHandler()
+        log.addHandler(quiet)
+        try:
+            super().play()
+        finally:
+            log.removeHandler(quiet)
+
 
 def load_tests(_: unittest.TestLoader, suite: unittest.TestSuite, __: str | None) -> unittest.TestSuite:
     """The cases, of `rv host --store`."""
-    cases = [*run.as_they_are(), *run.of_a_seed(Case.fixture.seed)]
-    suite.addTest(run.AtAHost(AtAStore(case) for case in cases if case.function not in LEFT_OUT))
+    cases = [*run.as_they_are(), *run.of_a_seed(Case.fixture.seed, PART)]
+    left_out = [*UNSERVED, *OF_ACCOUNTS, *UNBROKEN, *(LONG if Case.fixture.times <= 1 else [])]
+    suite.addTest(run.AtAHost(AtAStore(case) for case in cases if case.function not in left_out))
     return suite
