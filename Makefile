@@ -38,7 +38,7 @@ edits:
 # in whose midst they are killed
 torture: build
 	@command -v python3 > /dev/null || { echo "python3 is missing: the script is written in it" >&2; exit 1; }
-	@python3 -B -m tests $(if $(STORE),host.run_stores,faults.torture) --seconds $(or $(SECONDS),3500) --program $(PROGRAM)
+	@python3 -B -m tests $(if $(STORE),host.run_stores --times 2,faults.torture) --seconds $(or $(SECONDS),3500) --program $(PROGRAM)
 
 # rv host under crowds on bad links, whose clients are killed, for ten minutes or SECONDS, beside 400 or PEERS peers that send without
 # end or take no answers; then 20,000,000 entries, or ENTRIES. With STORE, a folder that stays, under the crowds alone, and killed each
