@@ -20,9 +20,10 @@ from typing import NamedTuple
 
 ROOT = pathlib.Path(__file__).resolve().parents[2]
 sys.dont_write_bytecode, sys.path[0] = True, str(ROOT)
-from tests.host.stored import Start, StoreHost, account_file  # noqa: E402
+from tests.host.stored import StoreHost  # noqa: E402
 from tests.host.watch import memory, most_memory  # noqa: E402
 from tests.journal.store import FORMAT  # noqa: E402
+from tests.sockets.hosts import Start, account_file  # noqa: E402
 from tools.bench import disks  # noqa: E402
 from tools.bench.verified import CLIENTS, PIECE, lines  # noqa: E402
 
