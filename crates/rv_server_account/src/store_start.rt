@@ -1,9 +1,10 @@
 //! Enters the store of a folder: the account with which a server starts.
-ghost use Rattle.std.specs.Prelude.{◌≡◌, IfOk, None, false, if◌then◌else◌, true};
+ghost use Rattle.std.specs.Prelude.{◌≡◌, ℕ, IfOk, None, Option, false, if◌then◌else◌, true};
 ghost use Rattle.rv_machine.specs.Machines.{state_in};
 ghost use Rattle.rv_server_account.specs.Kept.{journal_in};
 ghost use Rattle.rv_state.specs.resume.Resuming.{CanResume};
 ghost use Rattle.rv_store.specs.Entered.{AreEpochs};
+ghost use Rattle.rv_store.specs.Epochs.{IsChoice};
 ghost use Rattle.rv_store.specs.Lasting.{fault_of, journal_of};
 ghost use Rattle.rv_journal.specs.System.{does_sync};
 ghost use Rattle.rv_server_account.specs.Boots.{IsChosenIn};
@@ -87,6 +88,38 @@ fn wish_where(epochs: EpochWish, lets_go_on: bool) -> EpochWish
     }
 }
 
+// The journal, which is synced where the rules say so.
+fn kept_so(journal: AccountJournal<SystemFile>, syncs: bool) -> AccountJournal<SystemFile>
+    ensures fault { fault_of result ≡ fault_of journal }
+    ensures stopped { syncs ≡ false → does_sync (journal_of result).device ≡ false }
+{
+    let mut journal = journal;
+    if !syncs {
+        journal.stop_syncing();
+    }
+    journal
+}
+
+// The account of a start in this folder.
+fn entered(
+    rt: &HostRuntime,
+    folder: &mut SystemFolder<'_>,
+    path: &str,
+    wish: EpochWish,
+    wall: u64,
+) -> Result<EnteredStore<SystemFile>, KeepFault>
+    requires { AreEpochs wish }
+    ensures resumes { IfOk result (λ entered. CanResume (state_in entered.account.machine)) }
+    ensures chosen { IfOk result (λ entered.
+        (present : Option ℕ) × IsChoice wish present wall entered.choice) }
+    ensures works { IfOk result (λ entered. fault_of entered.account.journal ≡ None) }
+{
+    match enter_store(rt.alloc(), folder, wish, wall) {
+        Ok(entered) => Ok(entered),
+        Err(why) => Err(told(rt, folder, path, why)),
+    }
+}
+
 /// Enters the store of a folder, which is made if its parent is there, and locks it. By the wall clock's
 /// milliseconds it goes on with the present account, if the rules allow that and all that was written of it
 /// is there, or begins a new one. A store that isn't synced has a note of the machine's boot, and its account
@@ -110,15 +143,10 @@ pub fn enter<'a>(
     let boots = Boots::read(rt, path, rules.boot)?;
     let lets_go_on = boots.lets_go_on(rules.syncs);
     let wish = wish_where(rules.epochs, lets_go_on);
-    let (mut account, choice) = match enter_store(rt.alloc(), &mut folder, wish, wall) {
-        Ok(EnteredStore { account, choice }) => (account, choice),
-        Err(why) => return Err(told(rt, &folder, path, why)),
-    };
+    let EnteredStore { account, choice } = entered(rt, &mut folder, path, wish, wall)?;
     boots.note(rt, path, rules.syncs)?;
-    if !rules.syncs {
-        account.journal.stop_syncing();
-    }
     let StoredAccount { journal, machine } = account;
+    let journal = kept_so(journal, rules.syncs);
     let account = kept(rt, journal, folder, machine.epoch())?;
     Ok(StoreStart {
         account,

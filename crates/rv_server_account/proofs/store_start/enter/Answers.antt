@@ -8,4 +8,4 @@ returns-clause-chosen c =
     let wish = c.wish_where-wish.ensures in
     let is = record { least = wish.least; most = wish.most; new = wish.new } in
     chosen_by _ (known_boots _) _ _ _ _ _ c.in_ok-boots.ensures.named c.lets_go_on-lets_go_on.ensures is
-    c.in-Ok.ensures.chosen.chosen
+    c.in_ok-entered.ensures.chosen.1
