@@ -165,7 +165,8 @@ def a_crowd(program, seed, seconds, at_all_events=AT_ALL_EVENTS):
                    for number in range(1, PYTHONS + 1)]
         if not java.missing():
             clients.append(lambda: java_crowd(proxy.port, seconds, seed, ledger, record))
-        drive(server, ledger, clients, beside=kills(server, chance), limit=seconds + 2 * LONGER, calm=proxy.close, end=server.use_up)
+        drive(server, ledger, clients, beside=kills(server, chance), limit=seconds + 2 * LONGER, calm=proxy.close,
+              end=server.use_up)
         demand(not proxy.forgets(), f"clients were refused, by number: {proxy.forgets()}")
         recorded = len(lines_of(record))
         demand(recorded == len(ledger.asked), f"{len(ledger.asked)} calls were told, and {recorded} are recorded")

@@ -83,7 +83,8 @@ class One:
         return [json.loads(line) for line in text.split(b"\n")[:-1]]
 
     def ended(self):
-        """It must have ended well, unless it was killed, and have said nothing but that it found no server, where that is killed."""
+        """It must have ended well, unless it was killed, and have said nothing, but that it found no server where that is
+        killed."""
         status, said = self.process.wait(), self.said.read_text()
         if isinstance(self.server, Host) and self.server.is_killed:
             said = UNREACHED.sub("", said)

@@ -114,7 +114,8 @@ def told(program: str, change: Callable[[pathlib.Path], None]) -> None:
 
 
 def not_in_its_place(program: str) -> None:
-    """The account's file is removed, renamed, another, or cut: each at a host of its own. A store's isn't looked at for its length."""
+    """The account's file is removed, renamed, another, or cut: each at a host of its own. A store's isn't looked at for its
+    length."""
     changes = [removed, renamed, another, *([] if isinstance(program, StoreProgram) else [cut])]
     together(*(lambda change=change: told(program, change) for change in changes))
 

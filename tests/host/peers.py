@@ -37,7 +37,8 @@ def kinds_of(count: int) -> dict[str, int]:
 
 @dataclass
 class Sender:
-    """A peer of one kind: who it is, in which epoch, its next request, what it hasn't sent yet of its piece, and its connection."""
+    """A peer of one kind: who it is, in which epoch, its next request, what it hasn't sent yet of its piece, and its
+    connection."""
 
     kind: str
     client: int

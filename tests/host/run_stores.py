@@ -1,5 +1,5 @@
-"""The cases of `rv host` at hosts that keep a store. After each the store is opened anew, and goes on after all of its entries; the
-hosts of crowds are killed and started anew in their midst."""
+"""The cases of `rv host` at hosts that keep a store. After each the store is opened anew, and goes on after all of its entries;
+the hosts of crowds are killed and started anew in their midst."""
 from __future__ import annotations
 
 import logging

@@ -192,8 +192,8 @@ class Watched:
             return told
         within, first, most = self.within.judge(bound), self.most[0], max(self.most)
         demand(bound or most <= MORE * first + MORE_BYTES, f"the first run had {first} bytes at most, and a later one {most}")
-        return (f"{told}; within runs {within}; the first run had {first >> 10} KiB at most, and no later one more than {most >> 10}; "
-                f"{len(self.starts) - 1} kills, after each of which it was back within {self.longest:.2f} seconds")
+        return (f"{told}; within runs {within}; the first run had {first >> 10} KiB at most, and no later one more than "
+                f"{most >> 10}; {len(self.starts) - 1} kills, after each of which it was back within {self.longest:.2f} seconds")
 
 
 def bad_links(start: Callable[..., Host], seconds: float, seed: int, count: int, mebibytes: int) -> str:
