@@ -144,8 +144,8 @@ class Crowd:
 
 
 class Watched:
-    """What is measured of a host in a soak of so many seconds. One that keeps a store is killed again and again, and started
-    anew: then it is measured within its runs too."""
+    """What is measured of a host in a soak of so many seconds, in which it serves. One that keeps a store is killed again and
+    again, and started anew: then it is measured within its runs too."""
 
     def __init__(self, host: Host, seconds: float):
         self.host, self.seconds, self.probe, self.measured = host, seconds, Probe(host), Measured()
@@ -154,19 +154,23 @@ class Watched:
         # the most memory of each run, and the longest that nobody could connect
         self.most: list[int] = []
         self.longest = 0.0
-        self.began = self.started = time.monotonic()
+        # the seconds of the runs before, and when this one began
+        self.ran, self.started = 0.0, time.monotonic()
 
     def goes_on(self) -> bool:
         """Whether the soak isn't over. A host whose run is over is killed and started anew."""
-        now = time.monotonic()
-        if now - self.began < self.seconds and now - self.started >= self.run:
+        runs = time.monotonic() - self.started
+        if self.ran + runs >= self.seconds:
+            return False
+        if runs >= self.run:
             self.start_again()
-        return now - self.began < self.seconds
+        return True
 
     def start_again(self) -> None:
         """The host is killed, and goes on in its epoch after all entries that it went on after before, and more."""
         self.most.append(most_memory(self.host.process.pid))
         began, before = time.monotonic(), self.starts[-1]
+        self.ran += began - self.started
         after = self.host.start_again()
         is_further = (after.entries or 0) > (before.entries or 0)
         demand(after.epoch == before.epoch and is_further, f"after {before} it starts with {after}")
@@ -177,9 +181,8 @@ class Watched:
 
     def look(self) -> None:
         """Measures what the host has now, and how prompt it is."""
-        now, has, took = time.monotonic(), memory(self.host.process.pid), self.probe.seconds()
-        past, within = (now - self.began) / self.seconds, (now - self.started) / self.run
-        for measured, part in ((self.measured, past), (self.within, within)):
+        runs, has, took = time.monotonic() - self.started, memory(self.host.process.pid), self.probe.seconds()
+        for measured, part in ((self.measured, (self.ran + runs) / self.seconds), (self.within, runs / self.run)):
             tenth = min(9, int(10 * part))
             measured.memory[tenth].append(has)
             measured.seconds[tenth].append(took)
