@@ -8,7 +8,7 @@ from collections.abc import Callable
 
 from tests.cases import Case, Scenario
 from tests.clients import interrupted, receipts
-from tests.host import files, hostile, memory, options, run, starts, status, system
+from tests.host import fair, files, hostile, memory, options, run, starts, status, system
 from tests.sockets import crowds
 from tests.sockets import hostile as noisy
 from tests.sockets.hosts import StoreProgram
@@ -23,10 +23,11 @@ OF_ACCOUNTS: list[Callable[..., object]] = [
     options.accounts, system.a_disk_that_fills, system.no_room_to_start, system.killed, files.an_empty_file_is_taken,
     files.a_start_that_fails, files.a_bound_of_files,
 ]
-# These are long: they are tried where more is tried than the gate tries.
+# These are long, or of connections alone: they are tried where more is tried than the gate tries.
 LONG: list[Callable[..., object]] = [
-    hostile.silent_connections, hostile.resets_at_each_byte, hostile.a_flood, hostile.many_frames, memory.beside_many_who_send,
-    starts.back_at_once, *noisy.CASES, *interrupted.CASES, *receipts.WITH_JAVA,
+    *hostile.CASES, hostile.silent_connections, *memory.CASES, *starts.CASES, starts.back_at_once, *fair.CASES, *noisy.CASES,
+    system.few_descriptors, system.more_than_its_connections, status.hostile_visitors, status.told_without_descriptors,
+    status.the_dead_are_ended, status.a_moment_begins_anew, *interrupted.CASES, *receipts.WITH_JAVA,
 ]
 # The clients of these end where a connection breaks: those of the torture's crowds don't.
 UNBROKEN: list[Callable[..., object]] = [*crowds.CASES]
