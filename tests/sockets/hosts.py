@@ -87,9 +87,8 @@ class Host(Served):
         return held if self.store is None else text_of(held).removeprefix(FORMAT)
 
     def counted(self) -> int:
-        """How many bytes its status counts of its account: of a store those of entries alone."""
-        text = self.written()
-        return len(text) if self.store is None else len(text) - 1 - text.index(b"\n")
+        """How many bytes its status counts of its account: of a store with the format's name."""
+        return len(self.written()) + (0 if self.store is None else len(FORMAT))
 
     def keeps(self, record: bytes) -> None:
         if self.store is None:

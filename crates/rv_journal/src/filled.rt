@@ -77,6 +77,13 @@ impl<D: Device> FilledFile<D> {
         &self.device
     }
 
+    // Where its text ends.
+    pub(crate) fn end(&self) -> usize
+        ensures { result ≡ self.now.end }
+    {
+        self.end
+    }
+
     // Its device.
     pub(crate) fn into_device(self) -> D
         ensures { result ≡ self.device }

@@ -172,6 +172,13 @@ impl<D: Device> DiskJournal<D> {
         self.parts.add(piece)
     }
 
+    /// How many bytes its text has.
+    pub fn length(&self) -> usize
+        ensures { result ≡ self.now.end }
+    {
+        self.parts.file.end()
+    }
+
     /// Its device, to be looked at.
     pub fn device(&self) -> &D
         ensures { result.now ≡ self.now.device }

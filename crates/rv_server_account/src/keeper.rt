@@ -7,7 +7,7 @@ pub trait Keeper: Lasting {
     /// Whether this many more bytes may be written to it. One that has a bound of its own says yes.
     fn takes(&self, count: u64) -> bool;
 
-    /// How many bytes were written to it since the start.
+    /// How many bytes of text it has.
     fn bytes(&self) -> u64;
 
     /// Whether its file is still in its place, and as it was left, as the system says.

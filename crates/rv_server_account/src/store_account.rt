@@ -20,12 +20,12 @@ pub struct StoreAccount<'a> {
     // The journal's file by its name, to be looked at.
     name: String,
     file: File,
-    // How many bytes of lines were written to it since the start.
+    // How many bytes of text it has.
     bytes: u64,
 }
 
 impl<'a> StoreAccount<'a> {
-    // One to which nothing was written yet.
+    // One over this journal.
     pub(crate) fn new(
         journal: AccountJournal<SystemFile>,
         folder: SystemFolder<'a>,
@@ -34,12 +34,13 @@ impl<'a> StoreAccount<'a> {
     ) -> StoreAccount<'a>
         ensures { journal_in result ≡ journal }
     {
+        let bytes = journal.length() as u64;
         StoreAccount {
             journal,
             folder,
             name,
             file,
-            bytes: 0,
+            bytes,
         }
     }
 }

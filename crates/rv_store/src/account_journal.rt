@@ -35,6 +35,13 @@ impl<D: Device> AccountJournal<D> {
         self.fault
     }
 
+    /// How many bytes its text has.
+    pub fn length(&self) -> usize
+        ensures { result ≡ (journal_of self.now).end }
+    {
+        self.journal.length()
+    }
+
     /// Its device, to be looked at.
     pub fn device(&self) -> &D
         ensures { result.now ≡ (journal_of self.now).device }
