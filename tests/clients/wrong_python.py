@@ -8,12 +8,12 @@ from tests.clients.wrong import (
 
 PACKAGE, TESTS = "clients/python/src/rendezvous", "clients/python/tests"
 (MACHINE, SESSION, BODIES, CALLS, REPLIES, LINK, DRIVER, ERRORS, COURSE, ENDINGS, LEASES, UNCLAIMED, AIO, STREAM, RECORD,
- BELL) = (
+ BELL, MANNER, LOG) = (
     f"{PACKAGE}/{name}.py" for name in (
         "machine", "session", "bodies", "calls", "replies", "link", "driver", "errors", "course", "endings", "leases",
-        "unclaimed", "aio", "stream", "record", "bell"))
+        "unclaimed", "aio", "stream", "record", "bell", "manner", "log"))
 # Where a link was lost, and what goes on to another number there.
-LOST = "            self._failed()\n            return None\n"
+LOST = "            self._failed(why)\n            return None\n"
 SKIP = ("            key = self.machine.key\n            if key and %s:\n"
         "                self.machine = m.replace(self.machine, key=key._replace(number=key.number + 1))\n")
 CALL_IS = 'self.machine.call and self.machine.call["call"] == "drain"'
@@ -114,9 +114,23 @@ IN_PYTHON = [
     WrongClient("ends all its calls by the time of its first hello", "test_words.FirstHello.test_behind_the_welcome", [
         Edit(COURSE, "job.patience if self._welcomed else min(", "min(")]),
     WrongClient("logs nothing of a refused connection", "test_words.Logged.test_a_refused_connection", [
-        Edit(COURSE, '            LOG.warning("%s", job.fault)\n', "")]),
+        Edit(COURSE, '            log(WARNING, "%s", told)\n', "")]),
     WrongClient("logs each try", "test_words.Logged.test_a_refused_connection", [
-        Edit(COURSE, "if not_reached and job.fault != self._logged:", "if not_reached:")]),
+        Edit(COURSE, "if not_reached and told != self._logged.get(self.server):", "if not_reached:")]),
+    WrongClient("logs what it asks", "test_log.Lines.test_a_link_that_breaks", [
+        Edit(COURSE, 'log(INFO, "%s: connected", self.server)', 'log(INFO, "%s: connected for %s", self.server, self.machine.call)')]),
+    WrongClient("ends a call by what a handler of its log raises", "test_log.Lines.test_a_handler_that_raises", [
+        Edit(LOG, "    with contextlib.suppress(Exception):\n", "    with contextlib.suppress():\n")]),
+    WrongClient("asks one server alone", "test_addresses.Alternatives.test_a_lost_connection", [
+        Edit(COURSE, "(self._at + 1) % len(self.servers)", "0")]),
+    WrongClient("pauses before it asks the next server", "test_addresses.Alternatives.test_one_that_is_away", [
+        Edit(COURSE, "if not drops or self._missed >= len(self.servers):", "if True:")]),
+    WrongClient("waits for one server until the call's end", "test_addresses.Alternatives.test_shares", [
+        Edit(COURSE, "left / (len(self.servers) - self._missed)", "left")]),
+    WrongClient("has its address's options before what it is given", "test_addresses.Given.test_arguments_come_first", [
+        Edit(MANNER, "options.record if record is None else record", "options.record or record")]),
+    WrongClient("leases a number beside its address's", "test_addresses.Given.test_options", [
+        Edit(LEASES, "addressed if client is None and clients is None else client", "client")]),
     WrongClient("finds out by its first reply that it can't record", "test_record.Before.test_a_folder", [
         Edit(RECORD, "    record.check()\n", "")]),
     WrongClient("takes a wrong time for a right one", "test_words.Arguments.test_of_a_call", [
@@ -128,7 +142,7 @@ IN_PYTHON = [
     WrongClient("tells a piece that timed out as the end of its call", "test_presence.Pieces.test_one_after_another", [
         Edit(COURSE, "        if not timed_out or job.call is None or", "        if told or job.call is None or")]),
     WrongClient("asks the next piece of a call that was cancelled", "test_presence.Cancels.test_within_a_piece", [
-        Edit(COURSE, "        self._heard_at, self._bound = time.monotonic(), LEAST_PAUSE\n        return None\n",
+        Edit(COURSE, "        self._leads_on()\n        return None\n",
              "        job.given_up = False\n        return None\n")]),
     WrongClient("asks on after a piece that it can't record", "test_presence.Records.test_one_that_is_not_recorded", [
         Edit(COURSE, " and job.unrecorded is None\n", "\n")]),
@@ -240,8 +254,8 @@ IN_PYTHON = [
     WrongClient("records a reply once its call is told", "test_record.Lines.test_before_anybody_is_told", [
         Edit(COURSE, "            job.unrecorded = self", "            self.last = made.tell.outcome\n            job.unrecorded = self")]),
     WrongClient("records that a request waits", "test_record.Lines.test_what_is_no_reply", [
-        Edit(COURSE, "            self._heard_at, self._bound = time",
-             "            self._recorded(Outcome(self.machine.key), body)\n            self._heard_at, self._bound = time")]),
+        Edit(COURSE, "            self._leads_on()\n            if made",
+             "            self._recorded(Outcome(self.machine.key), body)\n            self._leads_on()\n            if made")]),
     WrongClient("takes a line that was cut for a whole one", "test_record.NotWritten.test_a_line_that_is_cut", [
         Edit(RECORD, "if written < len(line):", "if written < 1:")]),
     WrongClient(DROPS_REPLY, "test_record.NotWritten.test_whatever_is_in_the_way", [

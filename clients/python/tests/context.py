@@ -53,8 +53,8 @@ def impatient():
     """In the block, the patience of a call ends once a connection of it failed, and not before."""
     failed = Course._failed
 
-    def fails(course):
-        failed(course)
+    def fails(course, *given):
+        failed(course, *given)
         course._heard_at = float("-inf")
     with mock.patch.object(Course, "_failed", fails):
         yield

@@ -212,7 +212,7 @@ class Refusals(Case):
         for client, incarnation in [(0, 1), (1, 0), (2**53, 1), (1, 2**53), (1.0, 1)]:
             with self.raises(ValueError):
                 rv.Session("127.0.0.1:1", client, incarnation)
-        for version in (0, 3, True, "2", None):
+        for version in (0, 3, True, "2"):
             with self.raises(ValueError):
                 rv.Session("127.0.0.1:1", 1, 1, version=version)
 

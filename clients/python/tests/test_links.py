@@ -42,13 +42,6 @@ class Made(Case):
             rv.Session("no.such.host:7411", 1, 1, patience=PATIENCE).connect()
         self.assertIn("no.such.host:7411: name or service not known", str(told.raised))
 
-    def test_addresses(self):
-        """Of both families, as they are written and as pairs."""
-        for text, pair in (("h:1", ("h", 1)), ("[::1]:7411", ("::1", 7411)), ("::1:7411", ("::1", 7411))):
-            self.assertEqual(link.address_of(text), pair)
-            self.assertEqual(link.address_of(pair), pair)
-        self.assertEqual((link.named(("::1", 1)), link.named(("h", 1))), ("[::1]:1", "h:1"))
-
 
 class Kept(Case):
     """How long a connection is used."""

@@ -12,6 +12,7 @@ from unittest import mock
 
 from context import PATIENCE, Case, asked, impatient, leasing, rv, until
 from rendezvous import aio
+from rendezvous.addresses import target_of
 from rendezvous.course import Course
 from scripted import HANG_UP, SILENCE, Scripted, received_by, refused, reply, running_first, waiting, welcome
 
@@ -52,7 +53,7 @@ class InThreads:
     def goes_to(self, address):
         """Its connection has ended, and its next one is made to another address."""
         until("the end of its connection", lambda: self.one._driver._link is None)
-        self.one._driver.address = address
+        self.one._driver.servers = target_of(address).servers
 
     def close(self):
         """Closes it."""
@@ -77,7 +78,7 @@ class InTasks:
     def goes_to(self, address):
         """Its connection has ended, and its next one is made to another address."""
         until("the end of its connection", lambda: self.loop.run_until_complete(asyncio.sleep(0)) or self.one._course.has_news())
-        self.one._course.address = address
+        self.one._course.servers = target_of(address).servers
 
     def close(self):
         """Closes it."""
@@ -159,8 +160,8 @@ def tried_in_vain(deed):
     """In the block, a deed is done once a connection was refused."""
     failed, did = Course._failed, []
 
-    def fails(course):
-        failed(course)
+    def fails(course, *given):
+        failed(course, *given)
         if not did:
             did.append(deed)
             deed()

@@ -25,14 +25,19 @@ A server that is started anew without a store ends the session; `Session(address
 `Session(address, record=FILE)`, or RV_RECORD in the environment, keeps a record of what the session was told: each reply has its
 line in that file before its call returns.
 
-The logger `rendezvous` has a warning where no connection can be made, the first time and when the reason changes.
+`Session("rv://A:7411,B:7411")` has alternatives of one server, and `Session()` the server that RV_SERVER in the environment names.
+
+The logger `rendezvous`, silent by default, has a warning where no connection can be made, the first time and when the reason
+changes, where an epoch ended and where an outcome is not known; and for information each connection, its end, pause and refusal.
 
 `rendezvous.aio` has the same session for asyncio. `rendezvous.replies` has the types of what a request came to.
 """
+from .addresses import Server
 from .errors import (
     AllLeased, Cancelled, EpochEnded, Full, Interrupted, Misused, NotAsked, NotRecorded, Refused, RendezvousError, Replaced,
     TimedOut, Unsettled)
 from .course import Running
+from .manner import Retry
 from .replies import Counted, Key, Outcome, Receipt
 from .session import Items, Session
 from .unclaimed import Unclaimed
@@ -41,6 +46,6 @@ __version__ = "3.3.0"
 
 __all__ = [
     "AllLeased", "Cancelled", "Counted", "EpochEnded", "Full", "Interrupted", "Items", "Key", "Misused", "NotAsked",
-    "NotRecorded", "Outcome", "Receipt", "Refused", "RendezvousError", "Replaced", "Running", "Session", "TimedOut", "Unclaimed",
-    "Unsettled",
+    "NotRecorded", "Outcome", "Receipt", "Refused", "RendezvousError", "Replaced", "Retry", "Running", "Server", "Session",
+    "TimedOut", "Unclaimed", "Unsettled",
 ]

@@ -18,16 +18,17 @@ import time
 import weakref
 from functools import partial
 from types import TracebackType
-from typing import AsyncIterator, Callable, List, Optional, Type, cast
+from typing import AsyncIterator, Callable, List, Optional, Tuple, Type, Union, cast
 
 from . import errors, machine as m
-from .bodies import GREATEST_VERSION, Members
+from .addresses import Address, Server, target_of
+from .bodies import Members
 from .calls import UNGIVEN, Wait, checked, made
-from .course import Job, Running, manner_of
+from .course import Job, Running
 from .endings import (
     Result, counts_of, ending, item_if_any, item_of, items_of, itself, known_of, nothing, receipt_if_any, receipt_of)
 from .leases import name_of
-from .link import Address, address_of
+from .manner import Left, Retry, manner_of
 from .record import Path
 from .replies import Counted, Key, Outcome, Receipt
 from .shown import shown
@@ -50,15 +51,16 @@ class Session:
     it ended the session or could not be recorded, the next call raises what is known of that one, by its key, and asks nothing.
     """
 
-    def __init__(self, address: Address, client: Optional[int] = None, incarnation: Optional[int] = None, *,
-                 clients: Optional[range] = None, version: int = GREATEST_VERSION, patience: Optional[float] = 60.0,
-                 answer: float = 30.0, record: Optional[Path] = None, connect_timeout: Optional[float] = 5.0,
-                 renew: bool = False, presence: Optional[float] = None) -> None:
-        self.address, self.patience = address_of(address), patience
+    def __init__(self, address: Optional[Address] = None, client: Optional[int] = None, incarnation: Optional[int] = None, *,
+                 clients: Optional[range] = None, version: Optional[int] = None, patience: Union[float, None, Left] = Left.OUT,
+                 retry: Optional[Retry] = None, answer: float = 30.0, record: Optional[Path] = None,
+                 connect_timeout: Optional[float] = 5.0, renew: bool = False, presence: Optional[float] = None) -> None:
+        servers, options = target_of(address)
         checked(not renew or incarnation is None, UNGIVEN)
-        manner = manner_of(version, patience, answer, connect_timeout, record, renew, presence)
+        manner = manner_of(options, version, patience, retry, answer, connect_timeout, record, renew, presence)
+        self.patience = manner.retry.patience
         self._process = os.getpid()
-        self._course = StreamCourse(self.address, name_of(client, incarnation, clients), manner)
+        self._course = StreamCourse(servers, name_of(client, incarnation, clients, options.client), manner)
         self._event_loop: Optional[asyncio.AbstractEventLoop] = None
         self._closed = False
         # the call whose task waits; what it asks, or what a call left whose task was cancelled, with the task that settles that
@@ -145,6 +147,16 @@ class Session:
             self._go_on(self._left, False)
         self._course.order()
         self._course.end()
+
+    @property
+    def servers(self) -> Tuple[Server, ...]:
+        """The servers that its address names."""
+        return self._course.servers
+
+    @property
+    def address(self) -> Server:
+        """The server of these that was reached last, or is tried."""
+        return self._course.server
 
     @property
     def client(self) -> int:

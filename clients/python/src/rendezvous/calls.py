@@ -132,10 +132,8 @@ def time_of(name: str, seconds: Optional[float], may_be_none: bool = True) -> fl
     return number
 
 
-def times_of(patience: Optional[float], answer: float, connect_timeout: Optional[float]) -> Tuple[float, float]:
-    """Two times of a session's: how long it awaits an answer, and its first welcome. The patience is one too, which may change
-    later."""
-    time_of("patience", patience)
+def times_of(answer: float, connect_timeout: Optional[float]) -> Tuple[float, float]:
+    """Two times of a session's: how long it awaits an answer, and its first welcome."""
     checked(time_of("answer", answer, may_be_none=False) > 0, f"answer is above zero: {answer!r}")
     return answer, time_of("connect_timeout", connect_timeout)
 

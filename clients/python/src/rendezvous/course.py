@@ -5,18 +5,19 @@ can wait for that alike.
 """
 from __future__ import annotations
 
-import logging
 import random
 import time
-from typing import Callable, Generator, NamedTuple, Optional, Protocol, Tuple
+from typing import Callable, Dict, Generator, Optional, Protocol, Tuple
 
 from . import machine as m
-from .bodies import GREATEST_VERSION, Members, NoAnswer, body_of, is_whole, read_answer
-from .calls import checked, is_in_pieces, looks, piece_of, presence_of, seconds_of, time_of, times_of
+from .addresses import Server
+from .bodies import Members, NoAnswer, body_of, read_answer
+from .calls import is_in_pieces, looks, piece_of, seconds_of, time_of
 from .errors import REFUSALS, Misused, NotRecorded
 from .leases import Name
-from .link import named
-from .record import Path, Record, line_of, record_of
+from .log import INFO, WARNING, log
+from .manner import Manner
+from .record import line_of
 from .replies import Key, Outcome, TimedOut
 
 # A request whose own time is over is cancelled behind so many seconds, in which the server's own word may still come,
@@ -24,10 +25,7 @@ from .replies import Key, Outcome, TimedOut
 CANCEL_BEHIND, TELL_BEHIND = 0.5, 1.0
 # A server counts whole milliseconds: where less is left of a call's own time, that is over.
 LEAST_WAIT = 0.001
-# Pauses before a next try, in seconds: any up to this bound, which doubles each time.
-LEAST_PAUSE, GREATEST_PAUSE = 0.01, 5.0
 FOREVER = float("inf")
-LOG = logging.getLogger("rendezvous")
 LOWER_EPOCH = "the server is of the lower epoch"
 
 # It yields the moment until which it waits, and is sent whether the connection is ready.
@@ -124,41 +122,20 @@ class Running:
         return True
 
 
-class Manner(NamedTuple):
-    """How a session goes about its calls: the version that it speaks, for how many seconds it awaits one answer, and its first
-    welcome, the record that it keeps, whether it begins anew where its epoch has ended, and for how many milliseconds one request
-    waits at most."""
-
-    version: int
-    answer: float
-    connect_timeout: float
-    record: Optional[Record]
-    renew: bool
-    presence: Optional[int]
-
-
-def manner_of(version: int, patience: Optional[float], answer: float, connect_timeout: Optional[float], record: Optional[Path],
-              renew: bool, presence: Optional[float]) -> Manner:
-    """The manner of a session, by what it is given."""
-    awaits, connects = times_of(patience, answer, connect_timeout)
-    checked(is_whole(version, 1, GREATEST_VERSION), f"the version is 1 to {GREATEST_VERSION}: {version!r}")
-    if not isinstance(renew, bool):
-        raise TypeError(f"renew is True or False: {renew!r}")
-    waits = presence_of(presence)
-    return Manner(version, awaits, connects, record_of(record), renew, waits)
-
-
 class Course:
     """What one session does. `machine` is replaced by one assignment a step, here alone. `last` is the outcome of the last
     request that was settled. `closing`: what is known is to be told, and nothing more is to be asked. `record`, where there is
-    one, has each reply before anybody is told it."""
+    one, has each reply before anybody is told it. Of `servers` one after another is tried."""
 
-    def __init__(self, address: Tuple[str, int], name: Name, manner: Manner) -> None:
-        self.address, self.name, self.manner = address, name, manner
+    def __init__(self, servers: Tuple[Server, ...], name: Name, manner: Manner) -> None:
+        self.servers, self.name, self.manner = servers, name, manner
         self.answer, self.record = manner.answer, manner.record
         self._welcomed = False
-        # what was logged, until something is heard that leads on
-        self._logged = ""
+        # which server is tried or was reached, and how many in turn failed since something was heard that leads on
+        self._at = self._missed = 0
+        # what failed last at each server: in this job, and as it was logged, until a server is there
+        self._faults: Dict[Server, str] = {}
+        self._logged: Dict[Server, str] = {}
         self.machine = m.Machine(name.client, name.incarnation, manner.version)
         self.last: Optional[Outcome] = None
         self.closing = False
@@ -166,9 +143,15 @@ class Course:
         # the body of the request that was sent last
         self._asked = b""
         self._resume_at = self._answer_by = self._heard_at = 0.0
-        self._bound = LEAST_PAUSE
+        # how long an answer is awaited, and how long a pause may be
+        self._awaited, self._bound = manner.answer, manner.retry.first
         # its epoch has ended, and it has not begun anew; and the last epoch in which a job had it begin anew
         self._outlived, self._renewed_for = False, 0
+
+    @property
+    def server(self) -> Server:
+        """The server that is tried, or was reached."""
+        return self.servers[self._at]
 
     @property
     def unsettled(self) -> Optional[Key]:
@@ -206,6 +189,7 @@ class Course:
             told = self._step(m.Expire()) or m.NotAsked()
         if self.machine.flying is not m.Flying.NOTHING:
             self._hang_up()
+        self._log_doubt(told)
         job.end(told)
 
     def _outcome(self, job: Job) -> Generator[float, bool, m.Told]:
@@ -222,7 +206,9 @@ class Course:
                 return m.Welcomed()
             raise Misused("the session has ended, or a request is unsettled")
         job.asked = job.call or self.machine.call
-        self._heard_at, self._resume_at, self._bound = time.monotonic(), 0.0, LEAST_PAUSE
+        self._resume_at = 0.0
+        self._faults.clear()
+        self._leads_on()
         told: Optional[m.Told] = None
         while told is None:
             told = self._looked(job) or (yield from self._turn(job))
@@ -233,7 +219,7 @@ class Course:
         self._take_orders()
         now = time.monotonic()
         if self.closing or now >= job.tell_at or now >= self._silent_until(job):
-            job.fault = "the session was closed" if self.closing else job.fault or f"{named(self.address)}: no answer in time"
+            job.fault = "the session was closed" if self.closing else job.fault or f"{self.server}: no answer in time"
             return self._step(m.Expire())
         if (job.given_up or now >= job.cancel_at) and not self.machine.giving_up:
             told = self._step(m.GiveUp())
@@ -248,8 +234,9 @@ class Course:
         try:
             return (yield from self._linked(job))
         except (OSError, NoAnswer) as fault:
-            self._note(job, str(fault.args[1] if isinstance(fault, OSError) and len(fault.args) > 1 else fault))
-            self._failed()
+            why = str(fault.args[1] if isinstance(fault, OSError) and len(fault.args) > 1 else fault)
+            self._note(job, why)
+            self._failed(why)
             return None
 
     def _linked(self, job: Job) -> Turn:
@@ -260,11 +247,11 @@ class Course:
                 self._hang_up()
             return None
         if self._link is None:
-            self._connect(now)
+            self._connect(job, now)
         elif self.machine.flying is m.Flying.NOTHING and self._link.connected:
             self._speak(now)
         elif now >= self._answer_by:
-            raise NoAnswer(f"no answer within {self.answer:g} seconds")
+            raise NoAnswer(f"no answer within {round(self._awaited, 3):g} seconds")
         elif (yield self._until(job, self._answer_by)) and self._link is not None:
             body = self._link.go_on()
             self._watch()
@@ -272,18 +259,26 @@ class Course:
                 return self._hear(job, body)
         return None
 
-    def _connect(self, now: float) -> None:
-        """Begins to make a connection."""
-        self._link, self._answer_by = self._open(), now + self.answer
+    def _connect(self, job: Job, now: float) -> None:
+        """Begins to make a connection. Where there are servers after this one, it has its share of the job's time."""
+        self._link = self._open()
+        left = min(job.tell_at, self._silent_until(job)) - now
+        self._await(now, min(self.answer, left / (len(self.servers) - self._missed)) if len(self.servers) > 1 else self.answer)
         self._watch()
+
+    def _await(self, now: float, seconds: float) -> None:
+        """For so many seconds an answer is awaited, or a connection."""
+        self._answer_by, self._awaited = now + seconds, seconds
 
     def _speak(self, now: float) -> None:
         """Says what is due, over a connection that the peer has not closed meanwhile."""
         assert self._link is not None
         if not self._link.is_stale():
+            if not self._link.used:
+                log(INFO, "%s: connected", self.server)
             self._send(m.step(self.machine, m.Speak()), now)
         elif self._link.used:
-            self._hang_up()
+            self.lose("closed meanwhile")
         else:
             raise NoAnswer("the connection ended before anything was said")
 
@@ -291,7 +286,9 @@ class Course:
         """Takes a step that sends a message: it counts as sent before it is."""
         self.machine = made.machine
         if made.send is not None and self._link is not None:
-            self._answer_by = now + self.answer
+            # a hello is a part of the try, where others are to come
+            if len(self.servers) == 1 or made.machine.flying is not m.Flying.HELLO:
+                self._await(now, self.answer)
             body = body_of(made.send)
             if made.machine.flying is m.Flying.REQUEST:
                 self._asked = body
@@ -301,23 +298,26 @@ class Course:
     def _hear(self, job: Job, body: bytes) -> Optional[m.Told]:
         """Takes in an answer."""
         answer = read_answer(body)
+        if answer["kind"] == "refused":
+            log(INFO, "%s: refused %d, %s", self.server, answer["code"], REFUSALS[answer["code"]])
         made = self._heard(m.step(self.machine, m.Hear(answer)))
         if isinstance(made.tell, m.Settled):
             job.unrecorded = self._recorded(made.tell.outcome, body)
             self.last = made.tell.outcome
         if made.send is not None:
-            self._heard_at, self._bound = time.monotonic(), LEAST_PAUSE
+            self._leads_on()
             if made.machine.state is not m.State.NEW:
                 self._welcome()
             self._send(made, self._heard_at)
             return made.tell
         self.machine = made.machine
         if made.tell is None:
-            self._note(job, unfit(self.machine, answer))
-            self._pause()
+            why = unfit(self.machine, answer)
+            self._note(job, why)
+            self._failed(why, made.drop)
         elif not made.drop:
             self._welcome()
-        if made.drop:
+        else:
             self._hang_up()
         if isinstance(made.tell, m.EpochEnded):
             return self._outlives(job, made.tell)
@@ -334,12 +334,17 @@ class Course:
         if not timed_out or job.call is None or not is_in_pieces(job.call, self.manner.presence) or job.left() <= LEAST_WAIT:
             return told
         self._step(m.Ask(self._piece(job, job.call)))
-        self._heard_at, self._bound = time.monotonic(), LEAST_PAUSE
+        self._leads_on()
         return None
 
     def _welcome(self) -> None:
-        """The server is there: what is logged of it from now on is something new."""
-        self._welcomed, self._logged = True, ""
+        """A server is there: what is logged from now on is something new."""
+        self._welcomed = True
+        self._logged.clear()
+
+    def _leads_on(self) -> None:
+        """Something was heard that leads on, or a job begins: its silence and its pauses begin anew."""
+        self._heard_at, self._bound, self._missed = time.monotonic(), self.manner.retry.first, 0
 
     def _heard(self, made: m.Step) -> m.Step:
         """The step that an answer makes. Where the server has a greater incarnation of a client that was never welcome, and its
@@ -369,6 +374,7 @@ class Course:
     def _outlives(self, job: Job, told: m.EpochEnded) -> Optional[m.Told]:
         """The epoch has ended. That is told, unless the session begins anew, and the call goes on there: it is still wanted, nobody
         met it, or it changes nothing, and the server is of a greater epoch than when that was done last."""
+        log(WARNING, "%s: the epoch ended, the server is of epoch %d", self.server, told.current)
         self._outlived, call = True, job.call
         if not self.manner.renew or job.resumes or job.given_up or told.current <= self._renewed_for:
             return told
@@ -387,16 +393,29 @@ class Course:
 
     # ---- the connection
 
-    def _failed(self) -> None:
-        """The connection is of no more use: the next one is tried a little later."""
-        self._hang_up()
-        self._pause()
+    def _failed(self, why: str, drops: bool = True) -> None:
+        """A try has failed. Where the connection is of no more use the next server's turn comes, at once unless each had its own;
+        else this one is asked again a little later."""
+        if drops:
+            self.lose(why)
+            self._at, self._missed = (self._at + 1) % len(self.servers), self._missed + 1
+        if not drops or self._missed >= len(self.servers):
+            self._missed = 0
+            self._pause()
 
     def _pause(self) -> None:
         """Nothing is tried for a while, which is drawn anew each time: so clients that lost one server don't come back at
         once."""
-        self._resume_at = time.monotonic() + random.uniform(0, self._bound)
-        self._bound = min(GREATEST_PAUSE, 2 * self._bound)
+        pause = random.uniform(0, self._bound)
+        self._resume_at = time.monotonic() + pause
+        self._bound = min(self.manner.retry.largest, 2 * self._bound)
+        log(INFO, "%s: tried again in %d ms", self.server, round(1000 * pause))
+
+    def lose(self, why: str) -> None:
+        """The connection is of no more use, if there is one."""
+        if self._link is not None and self._link.connected:
+            log(INFO, "%s: lost: %s", self.server, why)
+        self._hang_up()
 
     def _hang_up(self) -> None:
         """Throws the connection away; what flew there stays counted."""
@@ -416,14 +435,20 @@ class Course:
         return self._heard_at + (job.patience if self._welcomed else min(job.patience, self.manner.connect_timeout))
 
     def _note(self, job: Job, fault: str) -> None:
-        """What failed last is told where the job ends by it, with the address. That no connection can be made, or that the server
-        is of a lower epoch, is logged at once, unless that was the last that was."""
-        where = f"{named(self.address)}: "
-        job.fault = fault if fault.startswith(where) else where + fault
+        """What failed last at each server is told where the job ends by it, with the address. That no connection can be made, or
+        that the server is of a lower epoch, is logged at once as a warning, unless that was the last that was of this server."""
+        where = f"{self.server}: "
+        told = self._faults[self.server] = fault if fault.startswith(where) else where + fault
+        job.fault = "; ".join(self._faults.values())
         not_reached = self._link is None or not self._link.connected or fault.startswith(LOWER_EPOCH)
-        if not_reached and job.fault != self._logged:
-            self._logged = job.fault
-            LOG.warning("%s", job.fault)
+        if not_reached and told != self._logged.get(self.server):
+            self._logged[self.server] = told
+            log(WARNING, "%s", told)
+
+    def _log_doubt(self, told: m.Told) -> None:
+        """Logs that nobody knows what became of a request, where a job ends so."""
+        if isinstance(told, m.Unsettled) or isinstance(told, m.EpochEnded) and not told.unmet:
+            log(WARNING, "%s: request %s: outcome not known", self.server, "/".join(map(str, told.key or ())))
 
 
 def unfit(machine: m.Machine, answer: Members) -> str:

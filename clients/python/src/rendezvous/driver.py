@@ -14,11 +14,13 @@ from queue import Empty, SimpleQueue
 from typing import Dict, Optional, Tuple
 
 from . import course, machine as m
+from .addresses import Server
 from .bell import ANYWHERE, Bell, told_of
 from .bodies import Members
-from .course import FOREVER, Channel, Course, Manner
+from .course import FOREVER, Channel, Course
 from .leases import Name
 from .link import Link
+from .manner import Manner
 
 RUNS, CLOSED = "the thread runs", "the session is closed"
 # What a thread waits by has no descriptor of its own.
@@ -58,8 +60,8 @@ class Job(course.Job):
 class Driver(Course):
     """The thread of one session. The session's name is given back once nothing is done in that name any more."""
 
-    def __init__(self, address: Tuple[str, int], name: Name, manner: Manner) -> None:
-        super().__init__(address, name, manner)
+    def __init__(self, servers: Tuple[Server, ...], name: Name, manner: Manner) -> None:
+        super().__init__(servers, name, manner)
         self.gone = False
         self._process = os.getpid()
         self.ended = threading.Lock()
@@ -139,7 +141,7 @@ class Driver(Course):
         except Empty:
             if self._wait(FOREVER, UNHEARD):
                 # the peer closed it, or said what nobody asked for
-                self._hang_up()
+                self.lose("closed meanwhile")
             return None
 
     def _do(self, job: Job) -> None:
@@ -171,7 +173,7 @@ class Driver(Course):
     # ---- the connection
 
     def _open(self) -> Channel:
-        return Link(self.address)
+        return Link(self.server)
 
     def _forget(self, link: Channel) -> None:
         assert isinstance(link, Link)

@@ -61,8 +61,10 @@ class Lease(Name):
         self._has_passed = False
 
 
-def name_of(client: Optional[int], incarnation: Optional[int], clients: Optional[range]) -> Name:
-    """The name of a session: what is given, and for what is left out a leased number and a new incarnation."""
+def name_of(client: Optional[int], incarnation: Optional[int], clients: Optional[range], addressed: Optional[int] = None) -> Name:
+    """The name of a session: what is given, or the number that its address has, and for what is left out a leased number and a
+    new incarnation."""
+    client = addressed if client is None and clients is None else client
     if client is None:
         checked(incarnation is None, "an incarnation is given along with its client number, or left out")
         return leased(range_of(clients))

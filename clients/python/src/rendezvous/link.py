@@ -3,52 +3,24 @@ from __future__ import annotations
 
 import errno
 import os
-import re
 import socket
 import struct
-from typing import Any, List, Optional, Tuple, Union
+from typing import Any, List, Optional
 
+from .addresses import Server
 from .bodies import NoAnswer
 
-Address = Union[str, Tuple[str, int]]
 # What a connect that is under way answers.
 UNDER_WAY = (errno.EINPROGRESS, errno.EWOULDBLOCK, errno.EALREADY, errno.EINTR)
 AT_ONCE = 65_536
-# A host, in brackets or not, and a port, as an address is written; and a host, which has colons in an address of version 6 alone.
-WRITTEN = re.compile(r"(?:\[([^\[\]]+)\]|([^\[\]]+)):([0-9]{1,5})")
-HOST = re.compile(r"[^\s\0/@:\[\]]+|[0-9A-Fa-f]*:[0-9A-Fa-f]*:[0-9A-Fa-f:.]*(%[^\s\0/@:\[\]]+)?")
 
 
-def address_of(address: Address) -> Tuple[str, int]:
-    """The host and port of an address, which may be a text `host:port`."""
-    if isinstance(address, str):
-        written = WRITTEN.fullmatch(address)
-        host, port = (written[1] or written[2], int(written[3])) if written else ("", 0)
-    elif isinstance(address, (tuple, list)):
-        if len(address) != 2:
-            raise ValueError(f"an address is a pair of a host and a port: {address!r}")
-        host, port = address
-        if not isinstance(host, str) or type(port) is not int:
-            raise TypeError(f"an address is a pair of a text and a whole number: {address!r}")
-    else:
-        raise TypeError(f"an address is a text host:port, or a pair of both: {address!r}")
-    if not HOST.fullmatch(host) or not 0 < port < 65_536:
-        raise ValueError(f"an address is host:port, with a port from 1 to 65535: {address!r:.100}")
-    return host, port
-
-
-def named(address: Tuple[str, int]) -> str:
-    """An address as it is written."""
-    host, port = address
-    return f"[{host}]:{port}" if ":" in host else f"{host}:{port}"
-
-
-def ways_to(address: Tuple[str, int]) -> List[Any]:
-    """The ways that an address names, which are asked for anew each time."""
+def ways_to(server: Server) -> List[Any]:
+    """The ways to a server, which are asked for anew each time."""
     try:
-        return socket.getaddrinfo(*address, type=socket.SOCK_STREAM)
+        return socket.getaddrinfo(*server, type=socket.SOCK_STREAM)
     except OSError as fault:
-        raise OSError(fault.errno, f"{named(address)}: {str(fault.strerror).lower()}") from fault
+        raise OSError(fault.errno, f"{server}: {str(fault.strerror).lower()}") from fault
 
 
 def frame_of(body: bytes) -> bytes:
@@ -87,14 +59,14 @@ class Link:
     `used` tells whether something was said there.
     Every fault of it is an OSError or NoAnswer, and then it is of no more use."""
 
-    def __init__(self, address: Tuple[str, int]) -> None:
-        self.address, self.connected, self.used = address, False, False
-        self._ways = ways_to(address)
+    def __init__(self, server: Server) -> None:
+        self.server, self.connected, self.used = server, False, False
+        self._ways = ways_to(server)
         self._out, self._inbox = b"", Inbox()
         self.socket = self._begin()
 
     def _begin(self) -> socket.socket:
-        """Begins to connect by the next way that the address names."""
+        """Begins to connect by the next way to the server."""
         family, kind, protocol, _, where = self._ways.pop(0)
         made = socket.socket(family, kind, protocol)
         try:
@@ -107,7 +79,7 @@ class Link:
         if code not in (0, *UNDER_WAY):
             made.close()
             if not self._ways:
-                raise OSError(code, f"{named(self.address)}: {os.strerror(code).lower()}")
+                raise OSError(code, f"{self.server}: {os.strerror(code).lower()}")
             return self._begin()
         return made
 
@@ -134,7 +106,7 @@ class Link:
             self.socket.close()
             self.socket = self._begin()
         else:
-            raise OSError(code, f"{named(self.address)}: {os.strerror(code).lower()}")
+            raise OSError(code, f"{self.server}: {os.strerror(code).lower()}")
 
     def say(self, body: bytes) -> None:
         """Begins to send a message."""

@@ -6,17 +6,18 @@ import threading
 import time
 import weakref
 from functools import partial
-from typing import Callable, Iterator, List, NoReturn, Optional, Tuple, Type, cast
+from typing import Callable, Iterator, List, NoReturn, Optional, Tuple, Type, Union, cast
 
 from . import errors, machine as m
-from .bodies import GREATEST_VERSION, Members
+from .addresses import Address, Server, target_of
+from .bodies import Members
 from .calls import UNGIVEN, Wait, checked, made
-from .course import Manner, Running, manner_of
+from .course import Running
 from .driver import Driver, Job
 from .endings import (
     Result, counts_of, ending, item_if_any, item_of, items_of, itself, known_of, nothing, receipt_if_any, receipt_of)
 from .leases import Name, name_of
-from .link import Address, address_of
+from .manner import Left, Manner, Retry, manner_of
 from .record import Path
 from .replies import Cancelled, Counted, Key, Outcome, Receipt
 from .shown import shown
@@ -34,6 +35,11 @@ END = 2.0
 class Session:
     """One client in one incarnation: it asks one request at a time, and is used by one thread at a time.
 
+    `address` is a text HOST:PORT, a pair of both, or a text rv://HOST:PORT,HOST:PORT?OPTION=VALUE&OPTION=VALUE, whose options are
+    `patience`, `record`, `client` and `version`; an argument that is given comes before them. Servers beside the first are
+    alternatives of it: after a lost connection the next one is asked at once. Left out, it is what the environment says in
+    RV_SERVER, or 127.0.0.1:7411.
+
     `client` is a number that no other process has, and `incarnation` one above each that this client was started
     with: left out, it is this moment, in microseconds, or above all that this process used. Without a client number the least
     free one of `clients` is leased, until the session is closed; a lease counts among the programs of one user on one host, so
@@ -44,14 +50,14 @@ class Session:
 
     `version` is what the session speaks: in version 2 a receipt names the consumer, in version 1, which
     each server knows, it does not. `patience` is for how many seconds a call goes on while nothing at all is
-    heard; None is for ever. Before the session's first welcome it goes on for `connect_timeout` seconds at most, so that a wrong
+    heard; None is for ever, and left out it is that of `retry`, which has the pauses between tries too. Before the session's first welcome it goes on for `connect_timeout` seconds at most, so that a wrong
     address is told soon; None is as long as the patience. `answer` is for how many seconds it waits for one answer before it
     throws the connection away.
 
     A call with a time of its own ends within that and a second, also where the server is silent or away. `inf` is for ever.
 
     While no connection can be made, or the server is of a lower epoch, calls go on: the logger `rendezvous` has a warning the
-    first time, and when the reason changes. The exception that ends the call names the address and the reason.
+    first time, and when the reason changes. The exception that ends the call names each server and the reason.
 
     `record` is a file that gets a line for each reply, with the request, before anybody is told the reply; it is opened for each,
     and made where there is none. Left out, it is what the environment says in RV_RECORD; an empty one is no record. A line is
@@ -70,13 +76,14 @@ class Session:
     process may have the client number: the session would take it back.
     """
 
-    def __init__(self, address: Address, client: Optional[int] = None, incarnation: Optional[int] = None, *,
-                 clients: Optional[range] = None, version: int = GREATEST_VERSION, patience: Optional[float] = 60.0,
-                 answer: float = 30.0, record: Optional[Path] = None, connect_timeout: Optional[float] = 5.0,
-                 renew: bool = False, presence: Optional[float] = None) -> None:
-        self.address, self.patience = address_of(address), patience
+    def __init__(self, address: Optional[Address] = None, client: Optional[int] = None, incarnation: Optional[int] = None, *,
+                 clients: Optional[range] = None, version: Optional[int] = None, patience: Union[float, None, Left] = Left.OUT,
+                 retry: Optional[Retry] = None, answer: float = 30.0, record: Optional[Path] = None,
+                 connect_timeout: Optional[float] = 5.0, renew: bool = False, presence: Optional[float] = None) -> None:
+        servers, options = target_of(address)
         checked(not renew or incarnation is None, UNGIVEN)
-        manner = manner_of(version, patience, answer, connect_timeout, record, renew, presence)
+        manner = manner_of(options, version, patience, retry, answer, connect_timeout, record, renew, presence)
+        self.patience = manner.retry.patience
         self._process = os.getpid()
         self._closed = False
         # The job that runs, or that its caller left, and that of a close: setdefault and pop are single steps. Whoever pops it
@@ -86,7 +93,7 @@ class Session:
         self._hidden: "dict[str, errors.NotRecorded]" = {}
         self._shelf = Shelf()
         self._loop: "Callable[[], Optional[Items]]" = no_loop
-        self._driver = driver_of(self.address, name_of(client, incarnation, clients), manner)
+        self._driver = driver_of(servers, name_of(client, incarnation, clients, options.client), manner)
         # from here on whatever is thrown ends what begins
         self._closes = weakref.finalize(self, self._driver.close)
         self._driver.start()
@@ -171,6 +178,16 @@ class Session:
             self._jobs.pop(which, None)
         if job.shelved and job.unrecorded is not None:
             self._hidden["fault"] = job.unrecorded
+
+    @property
+    def servers(self) -> Tuple[Server, ...]:
+        """The servers that its address names."""
+        return self._driver.servers
+
+    @property
+    def address(self) -> Server:
+        """The server of these that was reached last, or is tried."""
+        return self._driver.server
 
     @property
     def client(self) -> int:
@@ -444,10 +461,10 @@ def no_loop() -> Optional[Items]:
     return None
 
 
-def driver_of(address: Tuple[str, int], name: Name, manner: Manner) -> Driver:
+def driver_of(servers: Tuple[Server, ...], name: Name, manner: Manner) -> Driver:
     """The driver of a new session, which gives its name back at its end."""
     try:
-        return Driver(address, name, manner)
+        return Driver(servers, name, manner)
     except BaseException:
         name.close()
         raise

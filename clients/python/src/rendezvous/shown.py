@@ -5,7 +5,6 @@ from typing import Optional
 
 from .bodies import Members
 from .course import Course, Job
-from .link import named
 from .machine import State
 
 # The methods that ask a call: one that waits as long as it takes, and one that waits for a time or not at all.
@@ -18,7 +17,7 @@ def shown(kind: str, course: Optional[Course], closed: bool, job: Optional[Job])
         return f"<rendezvous.{kind} not made>"
     machine = course.machine
     epoch = f" epoch {machine.key.epoch}" if machine.key else ""
-    return f"<rendezvous.{kind} {named(course.address)} client {course.name.client}{epoch} {state(course, closed, job)}>"
+    return f"<rendezvous.{kind} {course.server} client {course.name.client}{epoch} {state(course, closed, job)}>"
 
 
 def state(course: Course, closed: bool, job: Optional[Job]) -> str:

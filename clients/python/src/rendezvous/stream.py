@@ -7,17 +7,19 @@ import os
 import time
 from typing import Optional, Tuple, cast
 
+from .addresses import Server
 from .bodies import NoAnswer
-from .course import FOREVER, Channel, Course, Job, Manner
+from .course import FOREVER, Channel, Course, Job
 from .leases import Name
-from .link import Inbox, frame_of, named
+from .link import Inbox, frame_of
+from .manner import Manner
 
 
 class Connection(asyncio.Protocol):
     """A connection, as a course uses it. `news`: something came, or it ended, since it was looked at last."""
 
-    def __init__(self, address: Tuple[str, int], course: "StreamCourse") -> None:
-        self.address, self._course = address, course
+    def __init__(self, server: Server, course: "StreamCourse") -> None:
+        self.server, self._course = server, course
         self.connected = self.used = self.news = False
         self._transport: Optional[asyncio.Transport] = None
         self._inbox = Inbox()
@@ -26,12 +28,12 @@ class Connection(asyncio.Protocol):
         self._made = self._loop.create_task(self._make())
 
     async def _make(self) -> None:
-        """Connects, by each way that the address names."""
+        """Connects, by each way to the server."""
         try:
-            await self._loop.create_connection(lambda: self, *self.address)
+            await self._loop.create_connection(lambda: self, *self.server)
         except OSError as fault:
             known = os.strerror(fault.errno) if fault.errno and fault.errno > 0 else fault.strerror or str(fault)
-            self._end(OSError(fault.errno, f"{named(self.address)}: {known.lower()}"))
+            self._end(OSError(fault.errno, f"{self.server}: {known.lower()}"))
         except asyncio.CancelledError:
             self._end(NoAnswer("the connection was given up"))
             raise
@@ -93,13 +95,13 @@ class Connection(asyncio.Protocol):
 class StreamCourse(Course):
     """A course that waits in an event loop."""
 
-    def __init__(self, address: Tuple[str, int], name: Name, manner: Manner) -> None:
-        super().__init__(address, name, manner)
+    def __init__(self, servers: Tuple[Server, ...], name: Name, manner: Manner) -> None:
+        super().__init__(servers, name, manner)
         self._ordered = False
         self._waker: "Optional[asyncio.Future[None]]" = None
 
     def _open(self) -> Channel:
-        return Connection(self.address, self)
+        return Connection(self.server, self)
 
     def order(self) -> None:
         """Has what waits look at its job again."""
