@@ -11,7 +11,7 @@ from tests.cases import Case, Scenario, SideBySide, Tool
 from tests.clients import (
     browser, cancelled_tasks, crowds, drains, guide, installed, interrupted, interrupted_judged, java, java_closes, java_leases,
     java_packages, java_record, java_scenes, long_waits, missing_tools, presence, python_page, python_tests, receipts, records,
-    restarts, table_cases)
+    restarts, shards, table_cases)
 
 # What is left out where its tool is missing.
 JAVA = Tool("the Java client", java.missing)
@@ -89,7 +89,8 @@ def load_tests(_: unittest.TestLoader, suite: unittest.TestSuite, __: str | None
     by_seed: list[Callable[..., object]] = [*interrupted.CASES, *cancelled_tasks.CASES, *presence.BY_SEED]
     suite.addTests(scenario(case, program, seed, is_random=True) for case in by_seed)
     others: list[Callable[..., object]] = [
-        *receipts.CASES, *restarts.CASES, *drains.CASES, *presence.CASES, *python_page.CASES, *guide.CASES, *missing_tools.CASES]
+        *receipts.CASES, *restarts.CASES, *shards.CASES, *drains.CASES, *presence.CASES, *python_page.CASES, *guide.CASES,
+        *missing_tools.CASES]
     suite.addTests(scenario(case, program) for case in others)
     suite.addTests(scenario(case, program, tools=[BROWSER]) for case in browser.CASES)
     return suite

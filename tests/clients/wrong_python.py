@@ -8,10 +8,10 @@ from tests.clients.wrong import (
 
 PACKAGE, TESTS = "clients/python/src/rendezvous", "clients/python/tests"
 (MACHINE, SESSION, BODIES, CALLS, REPLIES, LINK, DRIVER, ERRORS, COURSE, ENDINGS, LEASES, UNCLAIMED, AIO, STREAM, RECORD,
- BELL, MANNER, LOG) = (
+ BELL, MANNER, LOG, SPREAD, SHARDS) = (
     f"{PACKAGE}/{name}.py" for name in (
         "machine", "session", "bodies", "calls", "replies", "link", "driver", "errors", "course", "endings", "leases",
-        "unclaimed", "aio", "stream", "record", "bell", "manner", "log"))
+        "unclaimed", "aio", "stream", "record", "bell", "manner", "log", "spread", "shards"))
 # Where a link was lost, and what goes on to another number there.
 LOST = "            self._failed(why)\n            return None\n"
 SKIP = ("            key = self.machine.key\n            if key and %s:\n"
@@ -118,7 +118,7 @@ IN_PYTHON = [
     WrongClient("logs each try", "test_words.Logged.test_a_refused_connection", [
         Edit(COURSE, "if not_reached and told != self._logged.get(self.server):", "if not_reached:")]),
     WrongClient("logs what it asks", "test_log.Lines.test_a_link_that_breaks", [
-        Edit(COURSE, 'log(INFO, "%s: connected", self.server)', 'log(INFO, "%s: connected for %s", self.server, self.machine.call)')]),
+        Edit(COURSE, '"%s: connected", self.server)', '"%s: connected for %s", self.server, self.machine.call)')]),
     WrongClient("ends a call by what a handler of its log raises", "test_log.Lines.test_a_handler_that_raises", [
         Edit(LOG, "    with contextlib.suppress(Exception):\n", "    with contextlib.suppress():\n")]),
     WrongClient("asks one server alone", "test_addresses.Alternatives.test_a_lost_connection", [
@@ -129,6 +129,14 @@ IN_PYTHON = [
         Edit(COURSE, "left / (len(self.servers) - self._missed)", "left")]),
     WrongClient("has its address's options before what it is given", "test_addresses.Given.test_arguments_come_first", [
         Edit(MANNER, "options.record if record is None else record", "options.record or record")]),
+    WrongClient("asks another shard's server", "test_shards.Places.test_each_queue", [
+        Edit(SPREAD, ") % len(self.addresses)", ") % 2")]),
+    WrongClient("shares one client number among its shards", "test_shards.Places.test_client_numbers", [
+        Edit(SPREAD, "**self._options))", "**{**self._options, 'client': 1}))")]),
+    WrongClient("ends the loop of a shard beside the call that it cancels", "test_shards.All.test_a_cancel", [
+        Edit(SPREAD, "return running is not None and running.cancel() or any(", "return any(")]),
+    WrongClient("closes no shard behind one that tells something", "test_shards.Unclaimed.test_a_close_that_tells_something", [
+        Edit(SHARDS, "ends.callback(one.__exit__, kind, fault, trace)", "one.__exit__(kind, fault, trace)")]),
     WrongClient("leases a number beside its address's", "test_addresses.Given.test_options", [
         Edit(LEASES, "addressed if client is None and clients is None else client", "client")]),
     WrongClient("finds out by its first reply that it can't record", "test_record.Before.test_a_folder", [

@@ -25,10 +25,11 @@ A server that is started anew without a store ends the session; `Session(address
 `Session(address, record=FILE)`, or RV_RECORD in the environment, keeps a record of what the session was told: each reply has its
 line in that file before its call returns.
 
-`Session("rv://A:7411,B:7411")` has alternatives of one server, and `Session()` the server that RV_SERVER in the environment names.
+`Session("rv://A:7411,B:7411")` has alternatives of one server, and `Session()` what RV_SERVER in the environment names.
+`Shards(["A:7411", "B:7411"])` shares the queues and exchangers out over several servers.
 
 The logger `rendezvous`, silent by default, has a warning where no connection can be made, the first time and when the reason
-changes, where an epoch ended and where an outcome is not known; and for information each connection, its end, pause and refusal.
+changes, where an epoch ended and where an outcome is not known; and for information each connection, loss, pause and refusal.
 
 `rendezvous.aio` has the same session for asyncio. `rendezvous.replies` has the types of what a request came to.
 """
@@ -40,6 +41,7 @@ from .course import Running
 from .manner import Retry
 from .replies import Counted, Key, Outcome, Receipt
 from .session import Items, Session
+from .shards import Shards
 from .unclaimed import Unclaimed
 
 __version__ = "3.3.0"
@@ -47,5 +49,5 @@ __version__ = "3.3.0"
 __all__ = [
     "AllLeased", "Cancelled", "Counted", "EpochEnded", "Full", "Interrupted", "Items", "Key", "Misused", "NotAsked",
     "NotRecorded", "Outcome", "Receipt", "Refused", "RendezvousError", "Replaced", "Retry", "Running", "Server", "Session",
-    "TimedOut", "Unclaimed", "Unsettled",
+    "Shards", "TimedOut", "Unclaimed", "Unsettled",
 ]

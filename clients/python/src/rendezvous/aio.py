@@ -13,12 +13,13 @@ after `close`. Each item is given once.
 from __future__ import annotations
 
 import asyncio
+import contextlib
 import os
 import time
 import weakref
 from functools import partial
 from types import TracebackType
-from typing import AsyncIterator, Callable, List, Optional, Tuple, Type, Union, cast
+from typing import Any, AsyncIterator, Callable, Iterable, List, Optional, Tuple, Type, Union, cast
 
 from . import errors, machine as m
 from .addresses import Address, Server, target_of
@@ -32,10 +33,11 @@ from .manner import Left, Retry, manner_of
 from .record import Path
 from .replies import Counted, Key, Outcome, Receipt
 from .shown import shown
+from .spread import Spread
 from .stream import StreamCourse, UnderWay, let_go
 from .unclaimed import NotThere, Shelf, Unclaimed
 
-__all__ = ["Items", "Session"]
+__all__ = ["Items", "Session", "Shards"]
 
 # How many seconds a close waits for what a request comes to whose task was cancelled.
 FAREWELL = 1.0
@@ -489,3 +491,64 @@ class Items(AsyncIterator[str]):
 def no_loop() -> Optional[Items]:
     """There is no loop over items."""
     return None
+
+
+class Shards(Spread[Session]):
+    """Servers of which each has some queues and exchangers, as `rendezvous.Shards` has them, with the calls of `Session` here."""
+
+    def __init__(self, addresses: Iterable[Address], **options: Any) -> None:
+        super().__init__(Session, addresses, options)
+
+    async def __aenter__(self) -> "Shards":
+        return self
+
+    async def __aexit__(self, kind: Optional[Type[BaseException]], fault: Optional[BaseException],
+                        trace: Optional[TracebackType]) -> None:
+        self._closed = True
+        async with contextlib.AsyncExitStack() as ends:
+            for one in self.used():
+                ends.push_async_callback(one.__aexit__, kind, fault, trace)
+
+    async def close(self) -> None:
+        """Closes each session, as `Session.close` does."""
+        await self.__aexit__(None, None, None)
+
+    async def put(self, queue: int, item: str, timeout: Optional[float] = None) -> None:
+        """As `Session.put`."""
+        await self.session(queue).put(queue, item, timeout)
+
+    async def transfer(self, queue: int, item: str) -> Receipt:
+        """As `Session.transfer`."""
+        return await self.session(queue).transfer(queue, item)
+
+    async def try_transfer(self, queue: int, item: str, timeout: Optional[float] = None) -> Optional[Receipt]:
+        """As `Session.try_transfer`."""
+        return await self.session(queue).try_transfer(queue, item, timeout)
+
+    async def take(self, queue: int) -> str:
+        """As `Session.take`."""
+        return await self.session(queue).take(queue)
+
+    async def poll(self, queue: int, timeout: Optional[float] = None) -> Optional[str]:
+        """As `Session.poll`."""
+        return await self.session(queue).poll(queue, timeout)
+
+    def items(self, queue: int) -> Items:
+        """As `Session.items`."""
+        return self.session(queue).items(queue)
+
+    async def drain(self, queue: int, max: int) -> List[str]:
+        """As `Session.drain`."""
+        return await self.session(queue).drain(queue, max)
+
+    async def exchange(self, exchanger: int, item: str, timeout: Optional[float] = None) -> str:
+        """As `Session.exchange`."""
+        return await self.session(exchanger).exchange(exchanger, item, timeout)
+
+    async def count(self, queue: int) -> Counted:
+        """As `Session.count`."""
+        return await self.session(queue).count(queue)
+
+    async def peek(self, queue: int) -> Optional[str]:
+        """As `Session.peek`."""
+        return await self.session(queue).peek(queue)
