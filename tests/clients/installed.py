@@ -42,7 +42,14 @@ def asks(session: rendezvous.Session) -> Optional[rendezvous.Key]:
     names: List[int] = [session.client, session.incarnation]
     items: List[str] = [session.take(3), *session.drain(3, max=len(names))]
     receipt: Optional[rendezvous.Receipt] = session.try_transfer(3, items[0], timeout=1.5)
+    server: rendezvous.Server = session.address
+    names.append(server.port)
     return receipt.by if receipt else None
+
+
+def shares(addresses: List[str]) -> int:
+    with rendezvous.Shards(addresses, retry=rendezvous.Retry(largest=1.0)) as shards:
+        return shards.count(3).items
 
 
 def records(folder: pathlib.Path) -> Optional[rendezvous.Outcome]:

@@ -182,7 +182,7 @@ class Run:
         test.one_more()
         self.test, self.script, self.client, self.told = test, script, next(CLIENTS), []
         self.book, self.account = book, book.accounts[self.client]
-        self.session = rv.Session(book.address, self.client, 1, connect_timeout=None)
+        self.session = self.asked = self.begun()
         self.session.count(1)
         book.met[self.client], book.at_cancel[self.client] = script.met, script.at_cancel
         if script.left:
@@ -191,13 +191,17 @@ class Run:
         if script.hears:
             book.heard_of[self.client] = lambda: script.hears(self.session)
 
+    def begun(self):
+        """A session of its client."""
+        return rv.Session(self.book.address, self.client, 1, connect_timeout=None)
+
     def throw(self, kind, places, late=False):
         """Makes the call, with exceptions at these places; tells all places that it came by."""
         thrown = Thrown(kind, places, lambda: late and self.book.has_come(self.client, 2, GENEROUS))
         value = fault = None
         try:
             with thrown.traces():
-                value = self.script.call(self.session)
+                value = self.script.call(self.asked)
         except BaseException as raised:
             fault = raised
         if isinstance(fault, KINDS) and not isinstance(fault, rv.RendezvousError):
@@ -269,6 +273,18 @@ class Run:
         return reply["item"] if "item" in reply else outcome_of(reply)
 
 
+class Sharded(Run):
+    """A run whose call is asked by shards, in the session of the server that has its place."""
+
+    def begun(self):
+        self.shards = rv.Shards([f"rv://{self.book.address}?client={self.client}"], connect_timeout=None)
+        return self.shards.session(PLACE)
+
+    def throw(self, kind, places, late=False):
+        self.asked = self.shards
+        return super().throw(kind, places, late)
+
+
 class Closed(Run):
     """A run whose session is closed right after the exceptions: what the server gave is told, or stands there, once."""
 
@@ -327,6 +343,13 @@ class Interrupts(Untouched):
             for name, script in SCRIPTS.items():
                 with self.subTest(script=name):
                     self.everywhere(lambda: Run(self, book, script))
+
+    def test_each_line_of_shards(self):
+        """Of theirs, and of the session beneath."""
+        with Book() as book:
+            for name in ("put", "take, met at its cancel", "items"):
+                with self.subTest(script=name):
+                    self.everywhere(lambda: Sharded(self, book, SCRIPTS[name]))
 
     def test_an_exception_behind_another(self):
         """A second one at each line that is run after the first."""

@@ -125,7 +125,9 @@ class All(Case):
     """What is done with all sessions."""
 
     def test_names_and_signatures(self):
-        """Shards have the calls of a session, with the same arguments."""
+        """Shards have each call of a session, with the same arguments."""
+        calls = {name for name, value in vars(rv.Session).items() if callable(value) and not name.startswith("_")}
+        self.assertEqual(calls - {"connect", "close", "cancel", "unclaimed", "claim", "again", "give_up"}, set(ASKED))
         for shards, kind in ((rv.Shards, rv.Session), (aio.Shards, aio.Session)):
             for name in ASKED:
                 here, there = getattr(shards, name), getattr(kind, name)

@@ -189,8 +189,10 @@ class Course:
             told = self._step(m.Expire()) or m.NotAsked()
         if self.machine.flying is not m.Flying.NOTHING:
             self._hang_up()
-        self._log_doubt(told)
-        job.end(told)
+        try:
+            self._log_doubt(told)
+        finally:
+            job.end(told)
 
     def _outcome(self, job: Job) -> Generator[float, bool, m.Told]:
         """Begins a job, and goes on until there is something to tell."""
@@ -260,10 +262,12 @@ class Course:
         return None
 
     def _connect(self, job: Job, now: float) -> None:
-        """Begins to make a connection. Where there are servers after this one, it has its share of the job's time."""
-        self._link = self._open()
-        left = min(job.tell_at, self._silent_until(job)) - now
-        self._await(now, min(self.answer, left / (len(self.servers) - self._missed)) if len(self.servers) > 1 else self.answer)
+        """Begins to make a connection. One of several servers has its share of the job's time, as the others have theirs."""
+        self._link, seconds = self._open(), self.answer
+        if len(self.servers) > 1:
+            left = min(job.tell_at, self._silent_until(job)) - now
+            seconds = min(seconds, left / (len(self.servers) - self._missed))
+        self._await(now, seconds)
         self._watch()
 
     def _await(self, now: float, seconds: float) -> None:
@@ -301,6 +305,8 @@ class Course:
         if answer["kind"] == "refused":
             log(INFO, "%s: refused %d, %s", self.server, answer["code"], REFUSALS[answer["code"]])
         made = self._heard(m.step(self.machine, m.Hear(answer)))
+        if isinstance(made.tell, m.EpochEnded):
+            log(WARNING, "%s: the epoch ended, the server is of epoch %d", self.server, made.tell.current)
         if isinstance(made.tell, m.Settled):
             job.unrecorded = self._recorded(made.tell.outcome, body)
             self.last = made.tell.outcome
@@ -374,7 +380,6 @@ class Course:
     def _outlives(self, job: Job, told: m.EpochEnded) -> Optional[m.Told]:
         """The epoch has ended. That is told, unless the session begins anew, and the call goes on there: it is still wanted, nobody
         met it, or it changes nothing, and the server is of a greater epoch than when that was done last."""
-        log(WARNING, "%s: the epoch ended, the server is of epoch %d", self.server, told.current)
         self._outlived, call = True, job.call
         if not self.manner.renew or job.resumes or job.given_up or told.current <= self._renewed_for:
             return told
@@ -394,8 +399,8 @@ class Course:
     # ---- the connection
 
     def _failed(self, why: str, drops: bool = True) -> None:
-        """A try has failed. Where the connection is of no more use the next server's turn comes, at once unless each had its own;
-        else this one is asked again a little later."""
+        """A try has failed. Where the connection is of no more use the next server is tried: at once, or a little later where
+        each had its turn since something was heard that leads on. Else this one is asked again a little later."""
         if drops:
             self.lose(why)
             self._at, self._missed = (self._at + 1) % len(self.servers), self._missed + 1
