@@ -8,10 +8,11 @@ from tests.clients.wrong import (
 
 PACKAGE, TESTS = "clients/python/src/rendezvous", "clients/python/tests"
 (MACHINE, SESSION, BODIES, CALLS, REPLIES, LINK, DRIVER, ERRORS, COURSE, ENDINGS, LEASES, UNCLAIMED, AIO, STREAM, RECORD,
- BELL, MANNER, LOG, SPREAD, SHARDS) = (
+ BELL, MANNER, LOG, SPREAD, SHARDS, JOBS) = (
     f"{PACKAGE}/{name}.py" for name in (
         "machine", "session", "bodies", "calls", "replies", "link", "driver", "errors", "course", "endings", "leases",
-        "unclaimed", "aio", "stream", "record", "bell", "manner", "log", "spread", "shards"))
+        "unclaimed", "aio", "stream", "record", "bell", "manner", "log", "spread", "shards",
+        "jobs"))
 # Where a link was lost, and what goes on to another number there.
 LOST = "            self._failed(why)\n            return None\n"
 SKIP = ("            key = self.machine.key\n            if key and %s:\n"
@@ -129,6 +130,10 @@ IN_PYTHON = [
         Edit(COURSE, "left / (len(self.servers) - self._missed)", "left")]),
     WrongClient("has its address's options before what it is given", "test_addresses.Given.test_arguments_come_first", [
         Edit(MANNER, "options.record if record is None else record", "options.record or record")]),
+    WrongClient("pauses longer than its longest pause", "test_addresses.Retries.test_pauses", [
+        Edit(COURSE, "min(self.manner.retry.largest, 2 * self._bound)", "2 * self._bound")]),
+    WrongClient("counts a job's characters for its bytes", "test_jobs.Texts.test_how_long_it_may_be", [
+        Edit(JOBS, 'len(made.encode(errors="surrogatepass"))', "len(made)")]),
     WrongClient("asks another shard's server", "test_shards.Places.test_each_queue", [
         Edit(SPREAD, ") % len(self.addresses)", ") % 2")]),
     WrongClient("shares one client number among its shards", "test_shards.Places.test_client_numbers", [

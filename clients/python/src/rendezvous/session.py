@@ -37,7 +37,8 @@ class Session:
 
     `address` is a text HOST:PORT, a pair of both, or a text rv://HOST:PORT,HOST:PORT?OPTION=VALUE&OPTION=VALUE, whose options are
     `patience`, `record`, `client` and `version`; an argument that is given comes before them. Servers beside the first are
-    alternatives of it: after a lost connection the next one is asked at once. Left out, it is what the environment says in
+    alternatives of it: after a lost connection the next one is asked at once, and each that is silent before its welcome has an
+    equal share of the call's time. Left out, it is what the environment says in
     RV_SERVER, or 127.0.0.1:7411.
 
     `client` is a number that no other process has, and `incarnation` one above each that this client was started
@@ -48,22 +49,22 @@ class Session:
     that one too, and this session would hear its replies. Where the server has a greater incarnation at the first hello of a
     leased number, for the clock was set back, the session takes the next one above that.
 
-    `version` is what the session speaks: in version 2 a receipt names the consumer, in version 1, which
-    each server knows, it does not. `patience` is for how many seconds a call goes on while nothing at all is
-    heard; None is for ever, and left out it is that of `retry`, which has the pauses between tries too. Before the session's first welcome it goes on for `connect_timeout` seconds at most, so that a wrong
-    address is told soon; None is as long as the patience. `answer` is for how many seconds it waits for one answer before it
-    throws the connection away.
+    `version` is what the session speaks: in version 2 a receipt names the consumer, in version 1, which each server knows, it
+    does not. `patience` is for how many seconds a call goes on while nothing at all is heard; None is for ever, and left out it
+    is that of `retry`, which has the pauses between tries too. Before the session's first welcome it goes on for
+    `connect_timeout` seconds at most, so that a wrong address is told soon; None is as long as the patience. `answer` is for how
+    many seconds it waits for one answer before it throws the connection away.
 
     A call with a time of its own ends within that and a second, also where the server is silent or away. `inf` is for ever.
 
     While no connection can be made, or the server is of a lower epoch, calls go on: the logger `rendezvous` has a warning the
     first time, and when the reason changes. The exception that ends the call names each server and the reason.
 
-    `record` is a file that gets a line for each reply, with the request, before anybody is told the reply; it is opened for each,
-    and made where there is none. Left out, it is what the environment says in RV_RECORD; an empty one is no record. A line is
-    appended by one write, so any number of sessions and processes may share a local file. It is handed to the system, which
-    keeps it whatever becomes of the process, and is not forced to the disk. An OSError, before anything is leased or asked, where
-    it can't be written; `NotRecorded` where it can't be later.
+    `record` is a file that gets a line for each reply, with the request, before anybody is told the reply; it is opened for
+    each, and made where there is none. Left out, it is its address's, or what the environment says in RV_RECORD; an empty one is
+    no record. A line is appended by one write, so any number of sessions and processes may share a local file. It is handed to
+    the system, which keeps it whatever becomes of the process, and is not forced to the disk. An OSError, before anything is
+    leased or asked, where it can't be written; `NotRecorded` where it can't be later.
 
     With `presence` a wait of more than so many seconds is asked in pieces of that at most: each is a new request, until one settles
     otherwise than by its time. So what a process asked that was killed ends by itself within that time. A new piece comes last in
