@@ -246,7 +246,7 @@ class Course:
         now = time.monotonic()
         if now < self._resume_at:
             if (yield self._until(job, self._resume_at)):
-                self._hang_up()
+                self.lose("closed meanwhile")
             return None
         if self._link is None:
             self._connect(job, now)
