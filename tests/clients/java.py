@@ -88,10 +88,18 @@ def command(name, *words, jdk="java"):
 
 def the_java_process() -> None:
     """Each case of the table, by the machine in Java."""
-    table = ROOT / "clients/cases.jsonl"
-    ran = subprocess.run(command("rendezvous.CaseTable", table), capture_output=True, text=True,
-                         timeout=PATIENCE)
-    cases = sum('"machine"' in line for line in table.read_text().splitlines())
+    reads("rendezvous.CaseTable", ROOT / "clients/cases.jsonl", '"machine"')
+
+
+def the_java_addresses() -> None:
+    """Each case of the table of addresses, as Java reads it."""
+    reads("rendezvous.AddressTable", ROOT / "clients/addresses.jsonl", '"address"')
+
+
+def reads(name: str, table: pathlib.Path, member: str) -> None:
+    """A class finds no fault in the cases of a table, those lines that have this member."""
+    ran = subprocess.run(command(name, table), capture_output=True, text=True, timeout=PATIENCE)
+    cases = sum(member in line for line in table.read_text().splitlines())
     demand((ran.stdout, ran.stderr) == (f"{cases} cases\n", ""), f"{ran.stdout[:1000]} {ran.stderr[:1000]}")
 
 
@@ -676,6 +684,7 @@ def whatever_is_let_in(_java: Driver) -> None:
     demand(ran.returncode == 0 and ran.stdout.endswith(" calls of a link\n"), f"{ran.stdout} {ran.stderr[-3000:]}")
 
 
+TABLES = [the_java_process, the_java_addresses]
 CASES = [each_call, receipts, an_unsettled_receipt, what_is_no_receipt, versions, other_versions, drains_by_steps,
          a_drain_is_asked_under_one_key, a_step_that_fails, a_step_without_room, an_unsettled_step,
          what_is_not_taken_in, repeats_until_it_is_told, an_unsettled_request, an_unsettled_request_that_is_given_up,

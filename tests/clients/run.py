@@ -59,7 +59,7 @@ def python_package() -> Iterable[unittest.TestCase]:
 
 def java_alone(program: str) -> Iterable[unittest.TestCase]:
     """The cases of the Java client alone: of its package, and of its calls, scenes, leases and records."""
-    yield scenario(java.the_java_process, tools=[JAVA])
+    yield from (scenario(case, tools=[JAVA]) for case in java.TABLES)
     for case, tool in java_packages.cases():
         yield scenario(case, program, tools=[JAVA, *filter(None, [tool])])
     yield from map(by_a_driver, java.CASES)

@@ -145,7 +145,7 @@ IN_JAVA = [
     WrongClient("logs each try", "clients.java: a first hello", [
         Edit(SESSION, "if (!line.equals(logged)) {", "if (!line.isEmpty()) {")]),
     WrongClient("logs nothing of a server of a lower epoch", "clients.java: a lower epoch", [
-        Edit(SESSION, "            warn(words);\n            pause(words);\n", "            pause(words);\n")]),
+        Edit(SESSION, "            warn(words);\n            goesOn(words);\n", "            goesOn(words);\n")]),
     WrongClient("finds out by its first reply that it can't record", "clients.java_record: found before anything", [
         Edit(CLIENTS, "            kept.ifPresent(RecordFile::check);\n", "")]),
     WrongClient("leaves descriptors behind", "clients.java_scenes: no descriptors", [

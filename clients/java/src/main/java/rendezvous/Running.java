@@ -1,5 +1,6 @@
 package rendezvous;
 
+import java.util.Optional;
 import java.util.concurrent.ThreadLocalRandom;
 import java.util.concurrent.TimeUnit;
 
@@ -11,35 +12,36 @@ final class Running {
     /** Within how many nanoseconds a call that is to end ends by what is known, where nothing else is chosen. */
     static final long GRACE = TimeUnit.SECONDS.toNanos(1);
     private static final long LEAST_WAIT = TimeUnit.MILLISECONDS.toNanos(1);
-    private static final long LEAST_PAUSE = TimeUnit.MILLISECONDS.toNanos(10);
-    private static final long GREATEST_PAUSE = TimeUnit.SECONDS.toNanos(5);
 
     private final long began = System.nanoTime();
     private final boolean interruptible;
     private final long own;
     private final long grace;
     private final Abort abort;
+    private final Retry retry;
     private final long givesUp;
     private long patience;
     private long expires;
     private long heard;
-    private long pause = LEAST_PAUSE;
+    private long pause;
     private boolean interrupted;
     private boolean aborted;
     private boolean due;
     private Order order = Order.NOBODY;
-    private String fault = "nothing was heard in time";
+    private String fault;
 
     /**
-     * A call that begins now, with its own time and a patience, each {@link Calls#FOR_EVER} where it has none. Behind its
-     * time, an interrupt or an abort it ends within its grace.
+     * A call that begins now, with its own time and a patience, each {@link Calls#FOR_EVER} where it has none. After its
+     * time, an interrupt or an abort it ends within its grace. Its pauses are those of a retry.
      */
-    Running(boolean interruptible, long own, long patience, long grace, Abort abort) {
+    Running(boolean interruptible, long own, long patience, long grace, Abort abort, Retry retry) {
         this.interruptible = interruptible;
         this.own = own;
         this.patience = patience;
         this.grace = grace;
         this.abort = abort;
+        this.retry = retry;
+        pause = retry.first();
         givesUp = sum(own, grace / 2);
         expires = sum(givesUp, grace / 2);
     }
@@ -140,7 +142,7 @@ final class Running {
     void heard(long nanos) {
         patience = nanos;
         heard = now();
-        pause = LEAST_PAUSE;
+        pause = retry.first();
     }
 
     /** How many nanoseconds of its own time are left. */
@@ -158,17 +160,21 @@ final class Running {
         return ownLeft() > LEAST_WAIT;
     }
 
-    /** Something failed; the nanoseconds to pause, which grow from fault to fault. */
-    long failed(String words) {
-        fault = words == null ? "the connection was lost" : words;
+    /** Something failed, and this says what. */
+    void failed(String words) {
+        fault = words;
+    }
+
+    /** The nanoseconds to pause, whose bound grows from pause to pause. */
+    long nextPause() {
         long most = pause;
-        pause = Math.min(GREATEST_PAUSE, 2 * pause);
+        pause = retry.after(most);
         return left(ThreadLocalRandom.current().nextLong(most + 1));
     }
 
-    /** What went wrong last. */
-    String fault() {
-        return fault;
+    /** What went wrong last; nothing where nothing did. */
+    Optional<String> fault() {
+        return Optional.ofNullable(fault);
     }
 
     /** Who ordered first that the request is given up. */

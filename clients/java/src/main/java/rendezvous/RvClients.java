@@ -48,7 +48,7 @@ public final class RvClients implements AutoCloseable {
     /** The version of this package, which is that of the client in Python too. */
     public static final String VERSION = "3.3.0";
 
-    private final Link.Maker links;
+    private final Servers servers;
     private final Pool pool;
     private final long grace;
     private final ThreadLocal<Outcome> last = new ThreadLocal<>();
@@ -56,9 +56,9 @@ public final class RvClients implements AutoCloseable {
     private ExecutorService own;
     private boolean closed;
 
-    private RvClients(Link.Maker links, Numbers numbers, Pool.Maker maker, long patience, long idle, long grace,
+    private RvClients(Servers servers, Numbers numbers, Pool.Maker maker, long patience, long idle, long grace,
         Executor chosen) {
-        this.links = links;
+        this.servers = servers;
         this.pool = new Pool(numbers, maker, patience, idle, last::set);
         this.grace = grace;
         this.chosen = chosen;
@@ -72,7 +72,7 @@ public final class RvClients implements AutoCloseable {
     /** The same, whose sessions have this grace. */
     RvClients(long first, int most, long grace, LongFunction<RvSession> maker) {
         this(null, new Numbers.Given(new ClientRange(first, first + most - 1), 1), (client, incarnation) -> maker.apply(client),
-            RvSession.PATIENCE.toNanos(), Pool.IDLE, grace, null);
+            Retry.USUAL.patience().toNanos(), Pool.IDLE, grace, null);
         maker.apply(first);
     }
 
@@ -81,31 +81,63 @@ public final class RvClients implements AutoCloseable {
      *
      * @param host the server's host; a name is looked up anew for each connection
      * @param port the server's port, 1 to 65,535
+     * @throws IllegalArgumentException if the host or the port is none
      */
     public static Builder builder(String host, int port) {
-        return new Builder(host, port);
+        return new Builder(Address.of(host, port));
+    }
+
+    /**
+     * What makes the clients of a server at this address: {@code HOST:PORT}, with commas between several; or the same after
+     * {@code rv://}, and then perhaps options, as in {@code rv://a:7411,b:7411?patience=30&record=told.jsonl}. An address of
+     * version 6 stands in brackets.
+     *
+     * <p>Several are alternatives of one server, which are tried in turn: where a connection can't be made or is lost, the next
+     * one at once, and after a round in which each failed there is a {@linkplain Retry pause}.
+     *
+     * <p>The options are {@code patience}, in seconds or {@code forever}, {@code record}, {@code version}, and {@code client},
+     * which chooses one {@linkplain Builder#clients client number}. In a value {@code %20} is a space, and any byte of UTF-8 may
+     * be written so. What a method of the builder chooses holds, whatever the address says.
+     *
+     * @throws IllegalArgumentException if the address is none; the message begins with the place of what is wrong
+     */
+    public static Builder builder(String address) {
+        return new Builder(Address.of(address));
+    }
+
+    /**
+     * What makes the clients of the server whose {@linkplain #builder(String) address} is the environment variable
+     * {@code RV_SERVER}, and where that is empty or missing {@code 127.0.0.1:7411}.
+     *
+     * @throws IllegalArgumentException if that address is none
+     */
+    public static Builder builder() {
+        return new Builder(Address.of(System.getenv()));
     }
 
     /** What makes clients; what is not chosen is as each method tells. */
     public static final class Builder {
-        private final String host;
-        private final int port;
+        private final Address address;
         private ClientRange range;
         private boolean leased = true;
         private OptionalLong incarnation = OptionalLong.empty();
-        private Duration patience = RvSession.PATIENCE;
+        private Retry retry = Retry.USUAL;
+        private Duration patience;
         private long connectTime = RvSession.nanos("connectTimeout", RvSession.CONNECT);
         private long presence = Calls.FOR_EVER;
-        private int version = RvSession.VERSION;
+        private int version;
         private Executor executor;
         private boolean recordIsChosen;
         private Path record;
         private long idle = Pool.IDLE;
         private long grace = Running.GRACE;
 
-        private Builder(String host, int port) {
-            this.host = Objects.requireNonNull(host, "a host is a text");
-            this.port = port;
+        private Builder(Address address) {
+            this.address = address;
+            patience = address.patience().orElse(retry.patience());
+            version = address.version().orElse(RvSession.VERSION);
+            address.record().ifPresent(file -> record(Path.of(file)));
+            address.client().ifPresent(client -> clients(client, client));
         }
 
         /**
@@ -152,6 +184,12 @@ public final class RvClients implements AutoCloseable {
         public Builder patientForEver() {
             patience = null;
             return this;
+        }
+
+        /** How a call goes on where it is not answered: its pauses, and its patience. */
+        public Builder retry(Retry chosen) {
+            retry = Objects.requireNonNull(chosen, "a retry is a value");
+            return patience(retry.patience());
         }
 
         /**
@@ -213,6 +251,11 @@ public final class RvClients implements AutoCloseable {
             return this;
         }
 
+        /** The patience that is chosen by now; null for ever. */
+        Duration patience() {
+            return patience;
+        }
+
         /** For how many nanoseconds the session of a thread that ended keeps its connection, for tests. */
         Builder idle(long nanos) {
             idle = nanos;
@@ -228,24 +271,24 @@ public final class RvClients implements AutoCloseable {
         /**
          * The clients. Nothing is leased and nothing is sent before the first call.
          *
-         * @throws IllegalArgumentException if the host, the port, the version, the patience, {@code RV_CLIENTS} or
-         *     {@code RV_RECORD} is none
+         * @throws IllegalArgumentException if the version, the patience, {@code RV_CLIENTS} or the record is none
          * @throws IllegalStateException if numbers are not leased, and none are chosen; or they are leased, and an incarnation is
          *     chosen
          * @throws java.io.UncheckedIOException if the record cannot be written
          */
         public RvClients build() {
-            Link.Maker links = new SocketLink.To(host, port);
-            Pool.Maker maker = maker(links);
+            Servers servers = new Servers(address.servers());
+            Pool.Maker maker = maker(servers);
             Numbers numbers = numbers();
             // one is made for what it does not allow
             maker.make(numbers.first(), 1);
-            return new RvClients(links, numbers, maker, RvSession.nanos("patience", patience), idle, grace, executor);
+            return new RvClients(servers, numbers, maker, RvSession.nanos("patience", patience), idle, grace, executor);
         }
 
         /** What makes sessions as they are chosen by now, whatever is chosen later. */
-        private Pool.Maker maker(Link.Maker links) {
+        private Pool.Maker maker(Servers servers) {
             Duration time = patience;
+            Retry tries = retry;
             int spoken = version;
             long nanos = grace;
             long connects = connectTime;
@@ -254,7 +297,8 @@ public final class RvClients implements AutoCloseable {
                 : RecordFile.of(System.getenv());
             kept.ifPresent(RecordFile::check);
             return (client, each) -> {
-                RvSession session = new RvSession(links, client, each, time, RvSession.ANSWER, spoken);
+                RvSession session = new RvSession(servers, client, each, time, RvSession.ANSWER, spoken);
+                session.retry(tries);
                 session.grace(nanos);
                 session.connectTime(connects);
                 session.presence(waits);
@@ -385,7 +429,7 @@ public final class RvClients implements AutoCloseable {
     /** The server, and how many sessions there are, run and are unsettled. */
     @Override
     public String toString() {
-        return "RvClients[" + (links == null ? "" : links + ", ") + pool + "]";
+        return "RvClients[" + (servers == null ? "" : servers + ", ") + pool + "]";
     }
 
     /** What runs the calls of futures. */

@@ -3,6 +3,7 @@ package rendezvous;
 import com.google.gson.JsonObject;
 import java.io.IOException;
 import java.time.Duration;
+import java.util.List;
 import java.util.Optional;
 import java.util.concurrent.CancellationException;
 import java.util.concurrent.atomic.AtomicReference;
@@ -21,14 +22,12 @@ import rendezvous.Running.Order;
 public final class RvSession implements AutoCloseable {
     /** What a session speaks where no version is chosen: receipts name the consumer. */
     static final int VERSION = Bodies.GREATEST_VERSION;
-    /** For how long a call goes on while nothing at all is heard, where nothing else is chosen. */
-    static final Duration PATIENCE = Duration.ofSeconds(60);
     /** For how long one answer is awaited, where nothing else is chosen. */
     static final Duration ANSWER = Duration.ofSeconds(30);
     /** For how long a call goes on before the first welcome, where nothing else is chosen. */
     static final Duration CONNECT = Duration.ofSeconds(5);
 
-    private final Link.Maker links;
+    private final Servers.Turns turns;
     private final long patience;
     private final long answerTime;
     private final int version;
@@ -44,6 +43,7 @@ public final class RvSession implements AutoCloseable {
     private volatile long presence = Calls.FOR_EVER;
     private volatile boolean renews;
     private volatile Optional<RecordFile> record = Optional.empty();
+    private volatile Retry retry = Retry.USUAL;
     /** The request that was said last, or was to be said when its cancel was, and the body of what was heard last. */
     private JsonObject asked;
     private byte[] heard;
@@ -54,7 +54,7 @@ public final class RvSession implements AutoCloseable {
 
     /** A session of version 2 that says hello with its first call, and has a patience of a minute. */
     RvSession(String host, int port, long client, long incarnation) {
-        this(host, port, client, incarnation, PATIENCE, ANSWER, VERSION);
+        this(host, port, client, incarnation, Retry.USUAL.patience(), ANSWER, VERSION);
     }
 
     /**
@@ -76,13 +76,18 @@ public final class RvSession implements AutoCloseable {
 
     /** The same, over links of one's own, for tests. */
     RvSession(Link.Maker links, long client, long incarnation, Duration patience, Duration answerTime, int version) {
+        this(new Servers(List.of(links)), client, incarnation, patience, answerTime, version);
+    }
+
+    /** The same, at a server that may have several addresses. */
+    RvSession(Servers servers, long client, long incarnation, Duration patience, Duration answerTime, int version) {
         if (client < 1 || client > Key.GREATEST || incarnation < 1 || incarnation > Key.GREATEST) {
             throw new IllegalArgumentException("clients and incarnations are 1 to " + Key.GREATEST);
         }
         if (version < 1 || version > Bodies.GREATEST_VERSION) {
             throw new IllegalArgumentException("a version is 1 to " + Bodies.GREATEST_VERSION);
         }
-        this.links = links;
+        turns = servers.turns();
         this.patience = nanos("patience", patience);
         this.answerTime = Math.min(nanos("answer time", answerTime), Duration.ofDays(1).toNanos());
         this.version = version;
@@ -170,6 +175,11 @@ public final class RvSession implements AutoCloseable {
     /** Keeps this record, from the next call on. */
     void record(Optional<RecordFile> file) {
         record = file;
+    }
+
+    /** Pauses so, from the next call on; the patience is chosen before. */
+    void retry(Retry chosen) {
+        retry = chosen;
     }
 
     /** Tells the outcome of the last request no more, for the session is another thread's now. */
@@ -285,7 +295,7 @@ public final class RvSession implements AutoCloseable {
             if (interruptible && Thread.interrupted()) {
                 throw new InterruptedException();
             }
-            running = new Running(interruptible, own, silence(), grace, abort);
+            running = new Running(interruptible, own, silence(), grace, abort, retry);
             abort.wakes(this::wake);
             enters = true;
         } finally {
@@ -358,7 +368,8 @@ public final class RvSession implements AutoCloseable {
 
     /** The exception of what ends a call without an outcome. */
     private Optional<RvException> ended(Told told) {
-        String words = closed ? "the session was closed" : named(running.fault());
+        String words = closed ? "the session was closed"
+            : running.fault().orElseGet(() -> named("nothing was heard in time"));
         if (told instanceof Told.Unsettled left) {
             return Optional.of(new RvException.Unsettled(left.key(), left.accepted(), words));
         }
@@ -400,7 +411,7 @@ public final class RvSession implements AutoCloseable {
                 if (fault instanceof Link.NotConnected) {
                     warn(fault.getMessage());
                 }
-                pause(fault.getMessage());
+                goesOn(fault.getMessage() == null ? "the connection was lost" : fault.getMessage());
             }
         }
     }
@@ -423,12 +434,14 @@ public final class RvSession implements AutoCloseable {
             connect();
         }
         JsonObject message = next == null ? take(Plain.SPEAK).send() : next;
+        boolean greets = machine.flying() == Machine.Flying.HELLO;
         link.send(Bodies.written(message), running.left(answerTime));
-        heard = link.hear(running.left(answerTime));
+        heard = link.hear(greets ? turns.part(running.left(answerTime)) : running.left(answerTime));
         JsonObject answer = Bodies.readAnswer(heard);
         Step step = hear(answer);
         if (step.send() != null || step.tell() != null) {
             welcomed |= machine.state() != Machine.State.NEW;
+            turns.ledOn();
             logged = "";
             if (step.send() != null) {
                 running.heard(silence());
@@ -437,9 +450,12 @@ public final class RvSession implements AutoCloseable {
             String words = "the server is of the lower epoch " + Bodies.number(answer, "current") + ", and the session of "
                 + machine.key().epoch();
             warn(words);
-            pause(words);
+            goesOn(words);
+        } else if (step.drop()) {
+            goesOn("an answer came that this request has not");
         } else {
-            pause(step.drop() ? "an answer came that this request has not" : refusal(answer));
+            running.failed(named(refusal(answer)));
+            pause();
         }
         return step;
     }
@@ -474,7 +490,7 @@ public final class RvSession implements AutoCloseable {
 
     /** What is wrong, with the server's name before it. */
     private String named(String words) {
-        String server = links + ": ";
+        String server = turns.name() + ": ";
         return words.startsWith(server) ? words : server + words;
     }
 
@@ -491,10 +507,11 @@ public final class RvSession implements AutoCloseable {
     private void connect() throws IOException {
         if (link != null && link.isOver()) {
             hangUp();
+            turns.goesOn();
         }
         if (link == null) {
-            link = links.make(this::isWoken);
-            link.connect(running.left(answerTime));
+            link = turns.make(this::isWoken);
+            link.connect(turns.part(running.left(answerTime)));
         }
     }
 
@@ -516,9 +533,17 @@ public final class RvSession implements AutoCloseable {
         return running.isDue(closed);
     }
 
-    /** Pauses behind a fault, a random time, which may be longer each time. */
-    private void pause(String words) {
-        long ends = System.nanoTime() + running.failed(words);
+    /** Goes on after a fault that cost the connection: with the next address at once, and after a pause where each had one. */
+    private void goesOn(String words) {
+        running.failed(named(words));
+        if (turns.endsRound()) {
+            pause();
+        }
+    }
+
+    /** Pauses for a random time, which may be longer each time. */
+    private void pause() {
+        long ends = System.nanoTime() + running.nextPause();
         for (long left = ends - System.nanoTime(); left > 0 && !isWoken(); left = ends - System.nanoTime()) {
             LockSupport.parkNanos(this, left);
         }
@@ -566,7 +591,7 @@ public final class RvSession implements AutoCloseable {
     public String toString() {
         Machine now = machine;
         String epoch = now.key() == null ? "" : " epoch " + now.key().epoch();
-        return "RvSession[" + links + " client " + now.client() + epoch + " " + state(now) + "]";
+        return "RvSession[" + turns + " client " + now.client() + epoch + " " + state(now) + "]";
     }
 
     private String state(Machine now) {

@@ -27,19 +27,31 @@ final class SocketLink implements Link {
      * @param port the port there
      */
     record To(String host, int port) implements Maker {
-        /** A name, or an address of version 4; and one of version 6, which may stand in brackets. */
-        private static final Pattern NAME = Pattern.compile("[^\\s\\x00/@:\\[\\]]+");
-        private static final String SIX = "[0-9A-Fa-f]*:[0-9A-Fa-f]*:[0-9A-Fa-f:.]*(%[^\\s/\\]]+)?";
-        private static final Pattern ADDRESS = Pattern.compile(SIX + "|\\[" + SIX + "\\]");
+        /** A name, or an address of version 4; and one of version 6. Other languages take more characters for white space. */
+        private static final String WORD = "[^\\s\\x00\\x1C-\\x1F/?#&,:\\[\\]@%]+";
+        private static final Pattern NAME = Pattern.compile(WORD, Pattern.UNICODE_CHARACTER_CLASS);
+        private static final Pattern SIX =
+            Pattern.compile("(?=[^:%]*:[^:%]*:)[0-9A-Fa-f:.]+(%" + WORD + ")?", Pattern.UNICODE_CHARACTER_CLASS);
 
         To {
             Objects.requireNonNull(host, "a host is a text");
-            if (!NAME.matcher(host).matches() && !ADDRESS.matcher(host).matches()) {
+            boolean isInBrackets = host.startsWith("[") && host.endsWith("]");
+            if (!isName(host) && !isSix(isInBrackets ? host.substring(1, host.length() - 1) : host)) {
                 throw new IllegalArgumentException("a host is a name or an address, without a port: " + host);
             }
             if (port < 1 || port > 65_535) {
                 throw new IllegalArgumentException("a port is 1 to 65535: " + port);
             }
+        }
+
+        /** Whether a text is a name or an address of version 4. */
+        static boolean isName(String text) {
+            return NAME.matcher(text).matches();
+        }
+
+        /** Whether a text is an address of version 6, which may name a zone. */
+        static boolean isSix(String text) {
+            return SIX.matcher(text).matches();
         }
 
         @Override

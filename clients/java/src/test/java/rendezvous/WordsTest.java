@@ -52,6 +52,8 @@ final class WordsTest {
     private static List<Row> ofBuilders() {
         List<Row> rows = new ArrayList<>();
         rows.add(new Row(() -> RvClients.builder(null, 7411), NULL, "host"));
+        rows.add(new Row(() -> RvClients.builder(null), NULL, "address"));
+        rows.add(new Row(() -> RvClients.builder("a:1,b"), ILLEGAL, "port of server 2"));
         for (String host : List.of("", "rv://a", "a b", "a/b", "a:7411", "user@a", "a\0", "[::1", "::1]")) {
             rows.add(new Row(() -> RvClients.builder(host, 7411).clients(FIRST, FIRST).build(), ILLEGAL, "host"));
         }
@@ -75,9 +77,22 @@ final class WordsTest {
                 ChronoUnit.FOREVER.getDuration())) {
             rows.add(new Row(() -> builder.presence(time), ILLEGAL, "presence"));
         }
+        rows.add(new Row(() -> builder.retry(null), NULL, "retry"));
         rows.add(new Row(() -> builder.executor(null), NULL, "executor"));
         rows.add(new Row(() -> builder.record(null), NULL, "record"));
         return rows;
+    }
+
+    private static List<Row> ofRetries() {
+        Duration second = Duration.ofSeconds(1);
+        Duration less = Duration.ofNanos(-1);
+        return List.of(new Row(() -> new Retry(null, second, second), NULL, "firstPause"),
+            new Row(() -> new Retry(second, null, second), NULL, "largestPause"),
+            new Row(() -> new Retry(second, second, null), NULL, "patience"),
+            new Row(() -> new Retry(Duration.ZERO, second, second), ILLEGAL, "firstPause"),
+            new Row(() -> new Retry(less, second, second), ILLEGAL, "firstPause"),
+            new Row(() -> new Retry(second, second.minusNanos(1), second), ILLEGAL, "largestPause"),
+            new Row(() -> Retry.USUAL.withPatience(less), ILLEGAL, "patience"));
     }
 
     private static List<Row> ofPlaces(RvClients clients) {
@@ -119,6 +134,7 @@ final class WordsTest {
             RvTransferQueue queue = new RvTransferQueue(clients, 3);
             RvExchanger exchanger = new RvExchanger(clients, 3);
             ofBuilders().forEach(Row::judge);
+            ofRetries().forEach(Row::judge);
             ofPlaces(clients).forEach(Row::judge);
             ofItems(queue, exchanger, null, NULL).forEach(Row::judge);
             ofItems(queue, exchanger, "a".repeat(513), ILLEGAL).forEach(Row::judge);
