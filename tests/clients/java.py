@@ -477,12 +477,12 @@ def a_first_hello(java: Driver) -> None:
     java.expect("connects 700", "result a time")
     java.tell("logged")
     java.expect(f"open 1 1 {LONG}", "result open")
-    for logged in ("WARNING 127.0.0.1:1: connection refused", ""):
+    for logged in ("FINE 127.0.0.1:1: connection refused", ""):
         began = time.monotonic()
         java.expect("put a", "threw NotAsked null")
         demand(time.monotonic() - began < LONG / 2_000, "it ended by its patience")
         java.expect("words", "result nothing was sent: 127.0.0.1:1: connection refused")
-        java.expect("logged", f"result [{logged}]")
+        java.expect("logged refused", f"result [{logged}]")
     for deed in (SILENCE, b"SSH-2.0-OpenSSH_9.2\r\n"):
         with Scripted() as server:
             server.otherwise = deed
@@ -531,12 +531,12 @@ def a_lower_epoch(java: Driver) -> None:
         words = f"{server.address}: the server is of the lower epoch 5, and the session of 9"
         told = java.tell("words")
         demand(words in told, f"it says {told}")
-        java.expect("logged", f"result [WARNING {words}]")
+        java.expect("logged lower", f"result [FINE {words}]")
         server.otherwise = reply("done")
         java.expect("again", "result Done[key=9/1/1/1]")
         server.deeds = [refused(2, current=5), reply("done")]
         java.expect("put a", "result done")
-        java.expect("logged", f"result [WARNING {words}]")
+        java.expect("logged lower", f"result [FINE {words}]")
 
 
 @in_time

@@ -6,10 +6,10 @@ from tests.clients.wrong import (
     NEVER_UNMET, NO_PRESENCE, UNMET_THOUGH_HEARD, UNMET_THOUGH_LOST, Edit, WrongClient)
 
 (CALLS, MACHINE, REPLIES, SESSION, RUNNING, POOL, LEASES, QUEUE, FUTURE, UNCLAIMED, CONSUMER, BODIES, LINK, CLIENTS, RECORD,
- INCARNATIONS) = (
+ INCARNATIONS, LOG) = (
     f"clients/java/src/main/java/rendezvous/{name}.java"
     for name in ("Calls", "Machine", "Replies", "RvSession", "Running", "Pool", "Leases", "RvTransferQueue", "RequestFuture", "Unclaimed",
-                 "RvConsumer", "Bodies", "SocketLink", "RvClients", "RecordFile", "Incarnations"))
+                 "RvConsumer", "Bodies", "SocketLink", "RvClients", "RecordFile", "Incarnations", "Log"))
 
 IN_JAVA = [
     WrongClient(ANOTHER_NUMBER, "clients.java: the java process", [
@@ -143,9 +143,9 @@ IN_JAVA = [
     WrongClient("ends all its calls by the time of its first hello", "clients.java: behind the welcome", [
         Edit(SESSION, "welcomed ? patience : Math.min(patience, connectTime)", "Math.min(patience, connectTime)")]),
     WrongClient("logs each try", "clients.java: a first hello", [
-        Edit(SESSION, "if (!line.equals(logged)) {", "if (!line.isEmpty()) {")]),
+        Edit(LOG, "if (!words.equals(faults.put(server, words))) {", "if (!words.isEmpty()) {")]),
     WrongClient("logs nothing of a server of a lower epoch", "clients.java: a lower epoch", [
-        Edit(SESSION, "            warn(words);\n            goesOn(words);\n", "            goesOn(words);\n")]),
+        Edit(SESSION, "            log.notReached(turns.name(), named(words));\n            goesOn(words);\n", "            goesOn(words);\n")]),
     WrongClient("finds out by its first reply that it can't record", "clients.java_record: found before anything", [
         Edit(CLIENTS, "            kept.ifPresent(RecordFile::check);\n", "")]),
     WrongClient("leaves descriptors behind", "clients.java_scenes: no descriptors", [

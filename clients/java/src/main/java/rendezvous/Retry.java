@@ -14,7 +14,7 @@ import java.util.Objects;
  *     for ever
  */
 public record Retry(Duration firstPause, Duration largestPause, Duration patience) {
-    /** What holds where nothing is chosen: pauses below 10 milliseconds at first and 5 seconds at last, a patience of a minute. */
+    /** What holds where nothing is chosen: pauses below 10 milliseconds at first, 5 seconds at last, and a minute's patience. */
     public static final Retry USUAL = new Retry(Duration.ofMillis(10), Duration.ofSeconds(5), Duration.ofMinutes(1));
     private static final long DAY = Duration.ofDays(1).toNanos();
 

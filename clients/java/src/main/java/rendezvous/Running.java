@@ -1,5 +1,7 @@
 package rendezvous;
 
+import java.util.LinkedHashMap;
+import java.util.Map;
 import java.util.Optional;
 import java.util.concurrent.ThreadLocalRandom;
 import java.util.concurrent.TimeUnit;
@@ -28,7 +30,8 @@ final class Running {
     private boolean aborted;
     private boolean due;
     private Order order = Order.NOBODY;
-    private String fault;
+    /** By the servers' names, what went wrong last there. */
+    private final Map<String, String> faults = new LinkedHashMap<>();
 
     /**
      * A call that begins now, with its own time and a patience, each {@link Calls#FOR_EVER} where it has none. After its
@@ -160,9 +163,9 @@ final class Running {
         return ownLeft() > LEAST_WAIT;
     }
 
-    /** Something failed, and this says what. */
-    void failed(String words) {
-        fault = words;
+    /** Something failed at a server, and this says what. */
+    void failed(String server, String words) {
+        faults.put(server, words);
     }
 
     /** The nanoseconds to pause, whose bound grows from pause to pause. */
@@ -172,9 +175,9 @@ final class Running {
         return left(ThreadLocalRandom.current().nextLong(most + 1));
     }
 
-    /** What went wrong last; nothing where nothing did. */
+    /** What went wrong last at each server; nothing where nothing did. */
     Optional<String> fault() {
-        return Optional.ofNullable(fault);
+        return faults.isEmpty() ? Optional.empty() : Optional.of(String.join("; ", faults.values()));
     }
 
     /** Who ordered first that the request is given up. */

@@ -36,7 +36,10 @@ import java.util.function.LongFunction;
  * So these don't fail for a restart. Any other call is {@link RvException.EpochEnded}, and the thread's next one has a new
  * session.
  *
- * <p>They keep a {@linkplain Builder#record record} of what they were told, where a file is chosen for that.
+ * <p>They keep a {@linkplain Builder#record record} of what they were told, where a file is chosen for that. The
+ * {@linkplain System#getLogger logger} {@code rendezvous} has at {@code DEBUG}, which the JDK shows nobody by default, that
+ * they are connected, that a connection was lost, refusals, the end of an epoch, and that an outcome is not known; and at
+ * {@code TRACE} in how many milliseconds a call is tried again. It never has an item.
  *
  * <p>Each session has a client number of its own, which is leased by a socket that the system lets one program of the user
  * bind, so that no two of them on a host have the same. Numbers are leased as sessions are needed. They are given back when
@@ -195,8 +198,8 @@ public final class RvClients implements AutoCloseable {
         /**
          * For how long a call goes on before the first welcome of its session, so that a wrong address is told soon; five seconds
          * unless it is chosen here, and never longer than the patience. {@code ChronoUnit.FOREVER.getDuration()} is as long as
-         * that. While no connection can be made, calls are tried again: the logger {@code rendezvous} has a warning the first
-         * time, and when the reason changes, and the exception that ends the call names the server and the reason.
+         * that. While no connection can be made, calls are tried again: the logger {@code rendezvous} tells it, the first time and
+         * when the reason changes, and the exception that ends the call names each server that was tried, and the reason.
          */
         public Builder connectTimeout(Duration time) {
             connectTime = RvSession.nanos("connectTimeout", Objects.requireNonNull(time, "a connectTimeout is a time"));

@@ -49,8 +49,9 @@ public final class RvSession implements AutoCloseable {
     private byte[] heard;
     private Running running;
     private boolean welcomed;
-    /** What was logged last, until something is heard that leads on. */
-    private String logged = "";
+    /** Whether the link is connected. */
+    private boolean connected;
+    private final Log log = new Log();
 
     /** A session of version 2 that says hello with its first call, and has a patience of a minute. */
     RvSession(String host, int port, long client, long incarnation) {
@@ -346,7 +347,9 @@ public final class RvSession implements AutoCloseable {
         if (told instanceof Told.NotAsked || told instanceof Told.EpochEnded ended && ended.unmet()) {
             obeyed("nothing was asked");
         }
-        throw ended(told).orElseThrow();
+        RvException fault = ended(told).orElseThrow();
+        log.ended(turns.name(), fault);
+        throw fault;
     }
 
     /** Records what was heard last, if a record is kept, and then tells that this is the outcome. */
@@ -407,11 +410,7 @@ public final class RvSession implements AutoCloseable {
             } catch (Link.Woken woken) {
                 lose();
             } catch (IOException fault) {
-                lose();
-                if (fault instanceof Link.NotConnected) {
-                    warn(fault.getMessage());
-                }
-                goesOn(fault.getMessage() == null ? "the connection was lost" : fault.getMessage());
+                failed(fault.getMessage() == null ? "the connection was lost" : fault.getMessage());
             }
         }
     }
@@ -438,23 +437,27 @@ public final class RvSession implements AutoCloseable {
         link.send(Bodies.written(message), running.left(answerTime));
         heard = link.hear(greets ? turns.part(running.left(answerTime)) : running.left(answerTime));
         JsonObject answer = Bodies.readAnswer(heard);
+        if (Bodies.word(answer, "kind").equals("refused")) {
+            log.refused(turns.name(), refusal(answer));
+        }
         Step step = hear(answer);
         if (step.send() != null || step.tell() != null) {
             welcomed |= machine.state() != Machine.State.NEW;
             turns.ledOn();
-            logged = "";
+            log.ledOn();
             if (step.send() != null) {
                 running.heard(silence());
             }
         } else if (isOfALowerEpoch(answer)) {
             String words = "the server is of the lower epoch " + Bodies.number(answer, "current") + ", and the session of "
                 + machine.key().epoch();
-            warn(words);
+            log.notReached(turns.name(), named(words));
             goesOn(words);
         } else if (step.drop()) {
+            log.lost(turns.name(), "an answer came that this request has not");
             goesOn("an answer came that this request has not");
         } else {
-            running.failed(named(refusal(answer)));
+            running.failed(turns.name(), named(refusal(answer)));
             pause();
         }
         return step;
@@ -494,24 +497,18 @@ public final class RvSession implements AutoCloseable {
         return words.startsWith(server) ? words : server + words;
     }
 
-    /** Logs what is wrong, unless that was logged last. The logger is made where it is needed. */
-    private void warn(String words) {
-        String line = named(words);
-        if (!line.equals(logged)) {
-            logged = line;
-            System.getLogger("rendezvous").log(System.Logger.Level.WARNING, line);
-        }
-    }
-
     /** Has a connection, a new one where there was none or the peer closed it. */
     private void connect() throws IOException {
         if (link != null && link.isOver()) {
+            log.lost(turns.name(), "closed meanwhile");
             hangUp();
             turns.goesOn();
         }
         if (link == null) {
             link = turns.make(this::isWoken);
             link.connect(turns.part(running.left(answerTime)));
+            connected = true;
+            log.connected(turns.name());
         }
     }
 
@@ -533,9 +530,20 @@ public final class RvSession implements AutoCloseable {
         return running.isDue(closed);
     }
 
+    /** No connection was made, or it was lost, and this says why. */
+    private void failed(String words) {
+        if (connected) {
+            log.lost(turns.name(), words);
+        } else {
+            log.notReached(turns.name(), named(words));
+        }
+        lose();
+        goesOn(words);
+    }
+
     /** Goes on after a fault that cost the connection: with the next address at once, and after a pause where each had one. */
     private void goesOn(String words) {
-        running.failed(named(words));
+        running.failed(turns.name(), named(words));
         if (turns.endsRound()) {
             pause();
         }
@@ -543,7 +551,9 @@ public final class RvSession implements AutoCloseable {
 
     /** Pauses for a random time, which may be longer each time. */
     private void pause() {
-        long ends = System.nanoTime() + running.nextPause();
+        long pause = running.nextPause();
+        log.triedAgain(turns.name(), pause);
+        long ends = System.nanoTime() + pause;
         for (long left = ends - System.nanoTime(); left > 0 && !isWoken(); left = ends - System.nanoTime()) {
             LockSupport.parkNanos(this, left);
         }
@@ -557,6 +567,7 @@ public final class RvSession implements AutoCloseable {
     private void hangUp() {
         Link old = link;
         link = null;
+        connected = false;
         if (old != null) {
             old.close();
         }

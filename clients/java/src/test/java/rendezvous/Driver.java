@@ -21,6 +21,7 @@ import java.util.concurrent.LinkedBlockingQueue;
 import java.util.concurrent.TimeUnit;
 import java.util.function.UnaryOperator;
 import java.util.logging.Handler;
+import java.util.logging.Level;
 import java.util.logging.LogRecord;
 import java.util.logging.Logger;
 
@@ -52,6 +53,7 @@ final class Driver {
 
     public static void main(String[] words) throws IOException {
         LOG.setUseParentHandlers(false);
+        LOG.setLevel(Level.ALL);
         LOG.addHandler(new Handler() {
             @Override
             public void publish(LogRecord record) {
@@ -127,9 +129,7 @@ final class Driver {
                 connects = Duration.ofMillis(number(given, 0));
                 return "a time";
             case "logged":
-                List<String> lines = List.copyOf(LOGGED);
-                LOGGED.clear();
-                return lines;
+                return logged(String.join(" ", given));
             case "kept":
                 kept = clients.session();
                 return "a session";
@@ -227,6 +227,13 @@ final class Driver {
         } catch (CompletionException fault) {
             throw (Exception) fault.getCause();
         }
+    }
+
+    /** What was logged since this was asked last, and has these words. */
+    private static List<String> logged(String wanted) {
+        List<String> lines = List.copyOf(LOGGED);
+        LOGGED.clear();
+        return lines.stream().filter(line -> line.contains(wanted)).toList();
     }
 
     /** A receipt's two keys. */

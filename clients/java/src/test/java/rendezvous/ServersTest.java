@@ -3,6 +3,7 @@ package rendezvous;
 import static org.junit.jupiter.api.Assertions.assertEquals;
 import static org.junit.jupiter.api.Assertions.assertFalse;
 import static org.junit.jupiter.api.Assertions.assertInstanceOf;
+import static org.junit.jupiter.api.Assertions.assertThrows;
 import static org.junit.jupiter.api.Assertions.assertTrue;
 
 import com.google.gson.JsonObject;
@@ -15,6 +16,7 @@ import java.util.concurrent.TimeUnit;
 import java.util.function.BooleanSupplier;
 import org.junit.jupiter.api.Test;
 import org.junit.jupiter.api.Timeout;
+import org.junit.jupiter.api.function.Executable;
 
 /** Several addresses of one server, which a session tries in turn. */
 @Timeout(value = 2, unit = TimeUnit.MINUTES)
@@ -58,9 +60,15 @@ final class ServersTest {
 
     /** One where no connection can be made. */
     private Place away(String name) {
+        return away(name, () -> { });
+    }
+
+    /** One where no connection can be made, and this happens meanwhile. */
+    private Place away(String name, Runnable meanwhile) {
         return new Place(name, new ScriptedLink.Script() {
             @Override
             public void connects() throws IOException {
+                meanwhile.run();
                 throw new Link.NotConnected(name + ": connection refused", null);
             }
 
@@ -150,14 +158,12 @@ final class ServersTest {
     }
 
     @Test
-    void whatEndsACallNamesTheOneThatFailedLast() throws Exception {
-        RvSession session = session(away("a"), away("b"));
-        session.retry(new Retry(Duration.ofNanos(1), Duration.ofNanos(1), Duration.ofDays(9)));
-        session.connectTime(TimeUnit.MILLISECONDS.toNanos(50));
-        Throwable fault = Calling.of(() -> session.ask(put())).thrown();
-        assertInstanceOf(RvException.NotAsked.class, fault);
-        String last = seen.get(seen.size() - 1);
-        assertEquals("nothing was sent: " + last + ": connection refused", fault.getMessage());
+    void whatEndsACallTellsWhatFailedLastAtEach() {
+        Abort abort = new Abort();
+        RvSession session = session(away("a"), away("b", abort::ask));
+        Executable asks = () -> session.ask(new Calls.Job(put()).with(abort), true);
+        assertEquals("nothing was sent: a: connection refused; b: connection refused",
+            assertThrows(RvException.NotAsked.class, asks).getMessage());
     }
 
     @Test
