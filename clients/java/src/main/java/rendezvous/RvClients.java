@@ -470,12 +470,21 @@ public final class RvClients implements AutoCloseable {
      */
     @Override
     public void close() {
+        close(grace + Running.GRACE);
+    }
+
+    /** Has the calls end as {@link #close} does, which is still to be said, and waits for none of them. */
+    void endCalls() {
+        close(0);
+    }
+
+    private void close(long nanos) {
         synchronized (this) {
             closed = true;
             if (own != null) {
                 own.shutdown();
             }
         }
-        pool.close(grace + Running.GRACE);
+        pool.close(nanos);
     }
 }
