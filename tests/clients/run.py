@@ -10,8 +10,8 @@ from typing import Any
 from tests.cases import Case, Scenario, SideBySide, Tool
 from tests.clients import (
     browser, cancelled_tasks, crowds, drains, guide, installed, interrupted, interrupted_judged, java, java_closes, java_leases,
-    java_packages, java_record, java_scenes, long_waits, missing_tools, presence, python_page, python_tests, receipts, records,
-    restarts, shards, table_cases)
+    java_packages, java_record, java_scenes, java_shards, long_waits, missing_tools, presence, python_page, python_tests, receipts,
+    records, restarts, shards, table_cases)
 
 # What is left out where its tool is missing.
 JAVA = Tool("the Java client", java.missing)
@@ -63,7 +63,7 @@ def java_alone(program: str) -> Iterable[unittest.TestCase]:
     for case, tool in java_packages.cases():
         yield scenario(case, program, tools=[JAVA, *filter(None, [tool])])
     yield from map(by_a_driver, java.CASES)
-    alone: list[Callable[..., object]] = [*java_leases.CASES, *java_record.CASES, *java_scenes.CASES]
+    alone: list[Callable[..., object]] = [*java_leases.CASES, *java_record.CASES, *java_scenes.CASES, *java_shards.CASES]
     yield from (scenario(case, program, tools=[JAVA]) for case in alone)
 
 

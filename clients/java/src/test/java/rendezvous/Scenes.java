@@ -67,7 +67,7 @@ final class Scenes {
         Map.entry("used-up", Scenes::usedUp), Map.entry("no-descriptors", Scenes::noDescriptors),
         Map.entry("times", Scenes::times), Map.entry("cancelled-take", Scenes::cancelledTake),
         Map.entry("cancelled-transfer", Scenes::cancelledTransfer), Map.entry("consumer", Scenes::consumer),
-        Map.entry("waits", Scenes::waits), Map.entry("pieces", Scenes::pieces));
+        Map.entry("waits", Scenes::waits), Map.entry("pieces", Scenes::pieces), Map.entry("shards", Scenes::shards));
 
     /** A patience that ends in a scene, in milliseconds: long enough for a slow machine to ask. */
     private static final long SHORT = 3_000;
@@ -252,6 +252,29 @@ final class Scenes {
                 queue.put(line);
                 System.out.println("done " + clients.last().orElseThrow().key());
             }
+        }
+    }
+
+    /**
+     * The first line has the addresses of several servers. Each line after it asks at a queue, in a thread of its own: a take, or a
+     * put of an item; and what comes of that is told.
+     */
+    private static void shards(int none) throws Exception {
+        List<String> addresses = List.of(LINES.readLine().split(" "));
+        RvShards shards = RvShards.of(addresses, builder -> builder.clients(1, 8).unleased().incarnation(1)
+            .patientForEver().connectTimeout(ChronoUnit.FOREVER.getDuration()));
+        for (String line = LINES.readLine(); line != null; line = LINES.readLine()) {
+            String[] words = line.split(" ");
+            RvTransferQueue queue = shards.queue(Integer.parseInt(words[1]));
+            Started.of(() -> {
+                if (words[0].equals("take")) {
+                    System.out.println("took " + words[1] + " " + queue.take());
+                } else {
+                    queue.put(words[2]);
+                    System.out.println("put " + words[1] + " " + words[2]);
+                }
+                return null;
+            });
         }
     }
 
