@@ -175,11 +175,12 @@ def tests_of_junit(program: str) -> str:
 
 def virtual_threads(_program: str) -> None:
     """Ten thousand virtual threads share sixteen sessions and connections, and futures run on virtual threads; a close waits for
-    those that are cancelled."""
+    those that are cancelled; and ten thousand have a session each, all of them at a time."""
     words = java.command("rendezvous.VirtualThreads", jdk=later_jdk())
     ran = subprocess.run(words, capture_output=True, text=True, timeout=LIMIT)
-    wanted = "11000 requests, 1000 items, no more sessions than 16\n16 cancelled, 16 unclaimed, 0 unsettled\n"
-    demand((ran.stdout, ran.stderr) == (wanted, ""), f"{ran.stdout} {ran.stderr}")
+    wanted = ["11000 requests, 1000 items, no more sessions than 16", "16 cancelled, 16 unclaimed, 0 unsettled",
+              "10000 sessions, 10000 items"]
+    demand((ran.stdout.splitlines(), ran.stderr) == (wanted, ""), f"{ran.stdout} {ran.stderr}")
 
 
 def jdk_missing():

@@ -1,9 +1,12 @@
 package rendezvous;
 
 import java.util.ArrayList;
-import java.util.Comparator;
+import java.util.HashMap;
 import java.util.List;
+import java.util.Map;
 import java.util.Optional;
+import java.util.SortedMap;
+import java.util.TreeMap;
 import java.util.concurrent.TimeUnit;
 import java.util.concurrent.locks.Condition;
 import java.util.concurrent.locks.ReentrantLock;
@@ -62,7 +65,10 @@ final class Pool {
     private final ReentrantLock lock = new ReentrantLock(true);
     private final Condition changed = lock.newCondition();
     /** By their client numbers. */
-    private final List<Seat> seats = new ArrayList<>();
+    private final SortedMap<Long, Seat> seats = new TreeMap<>();
+    /** Those of them that no call has borrowed, and each by the thread that used it last: so a call looks at few of many. */
+    private final SortedMap<Long, Seat> rested = new TreeMap<>();
+    private final Map<Thread, Seat> owned = new HashMap<>();
     /** The sessions that were closed with a request that is unsettled. */
     private final List<RvSession> abandoned = new ArrayList<>();
     private boolean closed;
@@ -87,8 +93,8 @@ final class Pool {
     public String toString() {
         lock.lock();
         try {
-            long running = seats.stream().filter(Seat::isRunning).count();
-            long unsettled = seats.stream().filter(seat -> seat.session.isUnsettled()).count();
+            long running = all().filter(Seat::isRunning).count();
+            long unsettled = all().filter(seat -> seat.session.isUnsettled()).count();
             return seats.size() + " sessions, " + running + " running, " + unsettled + " unsettled" + (closed ? ", closed" : "");
         } finally {
             lock.unlock();
@@ -125,6 +131,7 @@ final class Pool {
             }
             Seat found = seat.or(this::own).orElseThrow(numbers::none);
             found.borrowed = true;
+            rested.remove(found.lease.client());
             return found;
         } finally {
             lock.unlock();
@@ -152,6 +159,7 @@ final class Pool {
         lock.lock();
         try {
             seat.borrowed = false;
+            rested.put(seat.lease.client(), seat);
             seat.since = System.nanoTime();
             if (closed || seat.session.isOver() && numbers.areUsedAgain()) {
                 end(seat);
@@ -183,7 +191,7 @@ final class Pool {
     List<RvSession> unsettled() {
         lock.lock();
         try {
-            Stream<RvSession> there = seats.stream().map(Seat::session)
+            Stream<RvSession> there = all().map(Seat::session)
                 .filter(session -> closed ? session.isOutstanding() : session.isUnsettled() && !session.isOver());
             return Stream.concat(abandoned.stream(), there).toList();
         } finally {
@@ -199,8 +207,8 @@ final class Pool {
         lock.lock();
         try {
             closed = true;
-            seats.forEach(seat -> seat.session.close());
-            List.copyOf(seats).stream().filter(seat -> !seat.isRunning()).forEach(this::end);
+            all().forEach(seat -> seat.session.close());
+            all().filter(seat -> !seat.isRunning()).toList().forEach(this::end);
             changed.signalAll();
             awaitCalls(nanos);
         } finally {
@@ -236,7 +244,9 @@ final class Pool {
         Optional<Seat> other = Stream.concat(free().filter(Seat::isNobodys), free()).findFirst().or(this::made);
         other.ifPresent(seat -> {
             own.ifPresent(before -> before.owner = null);
+            owned.remove(seat.owner);
             seat.owner = Thread.currentThread();
+            owned.put(seat.owner, seat);
             seat.session.forget();
         });
         tidy();
@@ -244,22 +254,28 @@ final class Pool {
     }
 
     private Optional<Seat> own() {
-        return seats.stream().filter(seat -> seat.owner == Thread.currentThread()).findFirst();
+        return Optional.ofNullable(owned.get(Thread.currentThread()));
+    }
+
+    private Stream<Seat> all() {
+        return seats.values().stream();
     }
 
     private Stream<Seat> free() {
-        return seats.stream().filter(Seat::isFree);
+        return rested.values().stream().filter(Seat::isFree);
     }
 
     private boolean anyRuns() {
-        return seats.stream().anyMatch(Seat::isRunning);
+        return all().anyMatch(Seat::isRunning);
     }
 
     /** A new session, where there is a number for it. */
     private Optional<Seat> made() {
         Optional<Seat> seat = numbers.next().map(this::seated);
-        seat.ifPresent(seats::add);
-        seats.sort(Comparator.comparingLong(each -> each.lease.client()));
+        seat.ifPresent(each -> {
+            seats.put(each.lease.client(), each);
+            rested.put(each.lease.client(), each);
+        });
         return seat;
     }
 
@@ -309,7 +325,7 @@ final class Pool {
     /** Of the sessions whose threads ended, drops what is over, and closes the connections of what idles for long. */
     private void tidy() {
         long now = System.nanoTime();
-        for (Seat seat : seats.stream().filter(each -> each.isNobodys() && !each.isRunning()).toList()) {
+        for (Seat seat : rested.values().stream().filter(each -> each.isNobodys() && !each.isRunning()).toList()) {
             boolean idles = seat.session.isIdle() && now - seat.since > idle;
             if (seat.session.isOver() || idles && numbers.areUsedAgain()) {
                 end(seat);
@@ -322,7 +338,9 @@ final class Pool {
     /** Ends a session. Its number is given back, unless it has to stay used up. */
     private void end(Seat seat) {
         seat.session.close();
-        seats.remove(seat);
+        seats.remove(seat.lease.client(), seat);
+        rested.remove(seat.lease.client(), seat);
+        owned.remove(seat.owner, seat);
         if (closed && seat.session.isOutstanding()) {
             abandoned.add(seat.session);
         }

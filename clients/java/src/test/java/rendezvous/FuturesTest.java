@@ -24,6 +24,7 @@ import java.util.concurrent.Executors;
 import java.util.concurrent.TimeUnit;
 import java.util.concurrent.TimeoutException;
 import java.util.function.Function;
+import java.util.function.UnaryOperator;
 import org.junit.jupiter.api.Test;
 import org.junit.jupiter.api.Timeout;
 
@@ -309,6 +310,38 @@ final class FuturesTest {
             assertEquals(1, server.asked().size());
             first.cancel(true);
         }
+    }
+
+    /** The name of the thread that completes a take's future, which has its item once someone looks at it. */
+    private static String completes(UnaryOperator<RvClients.Builder> chooses) throws Exception {
+        CountDownLatch looked = new CountDownLatch(1);
+        try (Answering server = new Answering(message -> awaited(looked, item(message, "a")));
+                RvClients clients = chooses.apply(server.clients(1, 8)).build()) {
+            CompletableFuture<String> name =
+                new RvTransferQueue(clients, 3).takeAsync().thenApply(item -> Thread.currentThread().getName());
+            looked.countDown();
+            return name.join();
+        }
+    }
+
+    private static JsonObject awaited(CountDownLatch latch, JsonObject answer) {
+        try {
+            latch.await();
+            return answer;
+        } catch (InterruptedException never) {
+            throw new IllegalStateException(never);
+        }
+    }
+
+    @Test
+    void aFutureIsCompletedByTheExecutorThatIsNamed() throws Exception {
+        ExecutorService executor = Executors.newSingleThreadExecutor(call -> new Thread(call, "the caller's own"));
+        try {
+            assertEquals("the caller's own", completes(builder -> builder.executor(executor)));
+        } finally {
+            executor.shutdown();
+        }
+        assertEquals("rendezvous runs a future's call", completes(builder -> builder));
     }
 
     @Test

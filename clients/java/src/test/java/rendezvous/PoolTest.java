@@ -101,6 +101,13 @@ final class PoolTest {
             .map(name -> DynamicTest.dynamicTest(name, () -> assertEquals(wanted, VirtualThreads.run())));
     }
 
+    @TestFactory
+    Stream<DynamicTest> tenThousandSessionsRunAtATimeInVirtualThreads() {
+        String wanted = "10000 sessions, 10000 items";
+        return Stream.of("where the JDK has virtual threads").filter(name -> VirtualThreads.areThere())
+            .map(name -> DynamicTest.dynamicTest(name, () -> assertEquals(wanted, VirtualThreads.sessions())));
+    }
+
     @Test
     void livingThreadsShareSessionsToo() throws Exception {
         CountDownLatch over = new CountDownLatch(1);
