@@ -1,4 +1,4 @@
-"""Java's shards over three hosts that keep stores."""
+"""Java's clients of live hosts that keep stores: shards over three of them, and the addresses of one."""
 from __future__ import annotations
 
 import contextlib
@@ -9,6 +9,7 @@ from collections.abc import Iterator, Sequence
 from tests.clients.java_scenes import Program, playing
 from tests.host.stored import StoreHost
 from tests.model.account import Account, Request
+from tests.sockets.programs import free_port
 from tests.sockets.wire import demand
 
 HOSTS = 3
@@ -56,4 +57,18 @@ def a_server_that_is_killed(program: str) -> None:
         demand(asked == [[0, 0, *[3] * 40], [1, 4, 1, 4], [2, 2]], f"they were asked at {asked}")
 
 
-CASES = [a_server_that_is_killed]
+def a_server_that_moves(program: str) -> None:
+    """A take that waits goes on at the other address of its server."""
+    with tempfile.TemporaryDirectory(prefix="rv-moves-") as folder, StoreHost(program, pathlib.Path(folder, "store")) as host, \
+            playing("shards", 1) as scene:
+        other = free_port()
+        scene.go(f"127.0.0.1:{host.port},127.0.0.1:{other}")
+        does(scene, ["take 0"], [])
+        host.stands(1)
+        host.start_again(lambda: setattr(host, "port", other))
+        does(scene, ["put 0 a"], ["put 0 a", "took 0 a"])
+        asked = queues(host.ended())
+        demand(asked == [0, 0], f"it was asked at {asked}")
+
+
+CASES = [a_server_that_is_killed, a_server_that_moves]

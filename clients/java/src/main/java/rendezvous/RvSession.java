@@ -297,6 +297,7 @@ public final class RvSession implements AutoCloseable {
                 throw new InterruptedException();
             }
             running = new Running(interruptible, own, silence(), grace, abort, retry);
+            turns.newRound();
             abort.wakes(this::wake);
             enters = true;
         } finally {
@@ -448,14 +449,8 @@ public final class RvSession implements AutoCloseable {
             if (step.send() != null) {
                 running.heard(silence());
             }
-        } else if (isOfALowerEpoch(answer)) {
-            String words = "the server is of the lower epoch " + Bodies.number(answer, "current") + ", and the session of "
-                + machine.key().epoch();
-            log.notReached(turns.name(), named(words));
-            goesOn(words);
         } else if (step.drop()) {
-            log.lost(turns.name(), "an answer came that this request has not");
-            goesOn("an answer came that this request has not");
+            dropped(answer);
         } else {
             running.failed(turns.name(), named(refusal(answer)));
             pause();
@@ -497,12 +492,25 @@ public final class RvSession implements AutoCloseable {
         return words.startsWith(server) ? words : server + words;
     }
 
+    /** An answer came that the request cannot have, and its connection was thrown away. */
+    private void dropped(JsonObject answer) {
+        if (isOfALowerEpoch(answer)) {
+            String words = "the server is of the lower epoch " + Bodies.number(answer, "current") + ", and the session of "
+                + machine.key().epoch();
+            log.notReached(turns.name(), named(words));
+            goesOn(words);
+        } else {
+            String words = "an answer came that this request has not";
+            log.lost(turns.name(), words);
+            goesOn(words);
+        }
+    }
+
     /** Has a connection, a new one where there was none or the peer closed it. */
     private void connect() throws IOException {
         if (link != null && link.isOver()) {
             log.lost(turns.name(), "closed meanwhile");
             hangUp();
-            turns.goesOn();
         }
         if (link == null) {
             link = turns.make(this::isWoken);

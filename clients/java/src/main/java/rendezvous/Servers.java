@@ -8,7 +8,7 @@ import java.util.stream.Collectors;
 /** Where a server may be reached: alternatives, which each session tries in turn. */
 final class Servers {
     private final List<? extends Link.Maker> all;
-    /** The one by which a session was led on last: with it the next session begins. */
+    /** The one that led a session on last: with it the next session begins. */
     private volatile int reached;
 
     /** These alternatives, one at least, of which the first is tried first. */
@@ -42,21 +42,21 @@ final class Servers {
             return all.get(current).toString();
         }
 
-        /** The next one's turn comes. */
-        void goesOn() {
-            current = (current + 1) % all.size();
-        }
-
         /** The one whose turn it is failed, and the next one's turn comes. Whether by now each of them failed. */
         boolean endsRound() {
-            goesOn();
+            current = (current + 1) % all.size();
             failed = (failed + 1) % all.size();
             return failed == 0;
         }
 
-        /** Something was heard that leads on: a new round begins. */
-        void ledOn() {
+        /** A new round begins, with a call. */
+        void newRound() {
             failed = 0;
+        }
+
+        /** Something was heard that leads on: a new round begins where it fails. */
+        void ledOn() {
+            newRound();
             reached = current;
         }
 

@@ -176,6 +176,9 @@ final class ServersTest {
         assertEquals(90, turns.part(90));
         assertTrue(turns.endsRound());
         assertEquals(30, turns.part(90));
+        assertFalse(turns.endsRound());
+        turns.newRound();
+        assertEquals(30, turns.part(90));
     }
 
     @Test
