@@ -6,10 +6,11 @@ from tests.clients.wrong import (
     NEVER_UNMET, NO_PRESENCE, UNMET_THOUGH_HEARD, UNMET_THOUGH_LOST, Edit, WrongClient)
 
 (CALLS, MACHINE, REPLIES, SESSION, RUNNING, POOL, LEASES, QUEUE, FUTURE, UNCLAIMED, CONSUMER, BODIES, LINK, CLIENTS, RECORD,
- INCARNATIONS, LOG) = (
+ INCARNATIONS, LOG, SERVERS, SHARDS, ADDRESS) = (
     f"clients/java/src/main/java/rendezvous/{name}.java"
     for name in ("Calls", "Machine", "Replies", "RvSession", "Running", "Pool", "Leases", "RvTransferQueue", "RequestFuture", "Unclaimed",
-                 "RvConsumer", "Bodies", "SocketLink", "RvClients", "RecordFile", "Incarnations", "Log"))
+                 "RvConsumer", "Bodies", "SocketLink", "RvClients", "RecordFile", "Incarnations", "Log",
+                 "Servers", "RvShards", "Address"))
 
 IN_JAVA = [
     WrongClient(ANOTHER_NUMBER, "clients.java: the java process", [
@@ -146,6 +147,12 @@ IN_JAVA = [
         Edit(LOG, "if (!words.equals(faults.put(server, words))) {", "if (!words.isEmpty()) {")]),
     WrongClient("logs nothing of a server of a lower epoch", "clients.java: a lower epoch", [
         Edit(SESSION, "            log.notReached(turns.name(), named(words));\n            goesOn(words);\n", "            goesOn(words);\n")]),
+    WrongClient("knows no address but its server's first", "clients.java_shards: a server that moves", [
+        Edit(SERVERS, "current = (current + 1) % all.size();", "current = 0;")]),
+    WrongClient("asks all shards at the first server", "clients.java_shards: a server that is killed", [
+        Edit(SHARDS, "all.get(Calls.place(place) % all.size())", "all.get(Calls.place(place) / 64)")]),
+    WrongClient("takes a port with a zero before it", "clients.java: the java addresses", [
+        Edit(ADDRESS, '":([1-9][0-9]{0,4})"', '":([0-9]{1,5})"')]),
     WrongClient("finds out by its first reply that it can't record", "clients.java_record: found before anything", [
         Edit(CLIENTS, "            kept.ifPresent(RecordFile::check);\n", "")]),
     WrongClient("leaves descriptors behind", "clients.java_scenes: no descriptors", [
