@@ -20,10 +20,10 @@ import java.util.regex.Matcher;
 import java.util.regex.Pattern;
 
 /**
- * Where a server is: its places, which are alternatives, and what its clients are by these options.
+ * Where a server is: the places that are alternatives of it, and the options that are chosen for its clients.
  *
  * @param servers the places, in the order in which they are tried
- * @param options by their names, the values, each of which is one that its option may have
+ * @param options by the options' names, their values, which are such that they may have
  */
 record Address(List<SocketLink.To> servers, Map<String, String> options) {
     /** The variable that has the address where none is given, and what is taken where that is empty or missing. */

@@ -118,7 +118,7 @@ public final class RvClients implements AutoCloseable {
         return new Builder(Address.of(System.getenv()));
     }
 
-    /** What makes clients; what is not chosen is as each method tells. */
+    /** What makes clients; what is chosen neither here nor by the address is as each method tells. */
     public static final class Builder {
         private final Address address;
         private ClientRange range;
@@ -144,9 +144,9 @@ public final class RvClients implements AutoCloseable {
         }
 
         /**
-         * The least and the greatest client number, each 1 to 2<sup>53</sup> - 1. Unless they are chosen here, the
-         * environment variable {@code RV_CLIENTS} names them as FIRST-LAST, and where there is none they are 1 to 1,024:
-         * a server admits 1,024 clients in an epoch.
+         * The least and the greatest client number, each 1 to 2<sup>53</sup> - 1. Unless they are chosen here,
+         * or one by the address, the environment variable {@code RV_CLIENTS} names them as FIRST-LAST, and where there is none
+         * they are 1 to 1,024: a server admits 1,024 clients in an epoch.
          */
         public Builder clients(long first, long last) {
             range = new ClientRange(first, last);
@@ -198,8 +198,8 @@ public final class RvClients implements AutoCloseable {
         /**
          * For how long a call goes on before the first welcome of its session, so that a wrong address is told soon; five seconds
          * unless it is chosen here, and never longer than the patience. {@code ChronoUnit.FOREVER.getDuration()} is as long as
-         * that. While no connection can be made, calls are tried again: the logger {@code rendezvous} tells it, the first time and
-         * when the reason changes, and the exception that ends the call names each server that was tried, and the reason.
+         * that. While no connection can be made, calls are tried again: the logger {@code rendezvous} has that at first, and when
+         * the reason changes, and the exception that ends the call names each server that was tried, and the reason.
          */
         public Builder connectTimeout(Duration time) {
             connectTime = RvSession.nanos("connectTimeout", Objects.requireNonNull(time, "a connectTimeout is a time"));
@@ -238,8 +238,9 @@ public final class RvClients implements AutoCloseable {
          * for each line, and made where there is none. A line is appended by one write, so any number of sessions, threads and
          * processes may share a local file. It is handed to the system, which keeps it whatever becomes of the process, and is
          * not forced to the disk. {@link #build} throws where it cannot be written, as far as that shows without a line; a reply
-         * that cannot be written later is {@link RvException.NotRecorded}. Unless it is chosen here,
-         * the environment variable {@code RV_RECORD} names the file, and where that is empty or missing there is no record.
+         * that cannot be written later is {@link RvException.NotRecorded}. Unless it is chosen here
+         * or by the address, the environment variable {@code RV_RECORD} names the file, and where that is empty or missing there
+         * is no record.
          */
         public Builder record(Path file) {
             record = Objects.requireNonNull(file, "no record is unrecorded()");

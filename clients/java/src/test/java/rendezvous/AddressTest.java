@@ -104,7 +104,7 @@ final class AddressTest {
     }
 
     @Test
-    void thePatienceIsTheAddresssUntilTheBuilderNamesOne() {
+    void thePatienceIsThatOfTheAddressUntilTheBuilderNamesOne() {
         String address = "rv://a:1?patience=2.5";
         assertEquals(Duration.ofMillis(2_500), RvClients.builder(address).patience());
         assertEquals(Duration.ofMinutes(1), RvClients.builder("a:1").patience());

@@ -11,6 +11,7 @@ import java.util.ArrayList;
 import java.util.List;
 import java.util.concurrent.CompletableFuture;
 import java.util.concurrent.CompletionException;
+import java.util.concurrent.CountDownLatch;
 import java.util.concurrent.TimeUnit;
 import java.util.function.Function;
 import java.util.function.UnaryOperator;
@@ -122,6 +123,32 @@ final class RvShardsTest {
         assertEquals(List.of(1L, 1L, 1L), shards.unsettled().stream().map(session -> session.key().number()).toList());
         assertThrows(IllegalStateException.class, () -> shards.queue(0).put("a"));
         assertTrue(shards.toString().contains("closed"), shards::toString);
+    }
+
+    private static boolean awaited(CountDownLatch latch) {
+        try {
+            latch.await();
+            return true;
+        } catch (InterruptedException never) {
+            throw new IllegalStateException(never);
+        }
+    }
+
+    /** The first server answers a cancel only once the second one's call has ended, as a close ends it at once. */
+    @Test
+    void aCloseWaitsForTheCallsOfAllServersTogether() throws Exception {
+        CountDownLatch ended = new CountDownLatch(1);
+        RvShards shards = shards(message -> Bodies.word(message, "kind").equals("cancel") && awaited(ended)
+            ? Answering.reply(message, key -> new Outcome.Item(key, "late")) : null,
+            builder -> builder.clients(first, first + SERVERS - 1).grace(Answering.LONG));
+        CompletableFuture<String> cancelled = shards.queue(0).takeAsync();
+        shards.queue(1).takeAsync().whenComplete((item, fault) -> ended.countDown());
+        servers.get(0).awaitAsked(1);
+        servers.get(1).awaitAsked(1);
+        cancelled.cancel(true);
+        servers.get(0).awaitAsked(2);
+        shards.close();
+        assertEquals(List.of("late"), shards.queue(0).unclaimed());
     }
 
     @Test
