@@ -104,6 +104,15 @@ class Given(Case):
                 for kind in self.KINDS:
                     self.assertEqual(self.made(kind, None)[:2], ((server,), 7 if told else clients[0]))
 
+    def test_its_number_is_leased(self):
+        """The number of an address is no other session's at the same time, in this process or another one."""
+        with leasing() as clients:
+            address = f"rv://a:1?client={clients[0]}"
+            with contextlib.closing(rv.Session(address)) as session:
+                self.assertEqual(session.client, clients[0])
+                self.assertRaises(rv.AllLeased, rv.Session, address)
+            rv.Session(address).close()
+
     def test_a_wrong_one(self):
         """It is told before anything is leased, also that of the environment."""
         with leasing(), mock.patch.dict(os.environ, RV_SERVER="a:1,b"), mock.patch("rendezvous.leases.leased") as leased:

@@ -62,12 +62,11 @@ class Lease(Name):
 
 
 def name_of(client: Optional[int], incarnation: Optional[int], clients: Optional[range], addressed: Optional[int] = None) -> Name:
-    """The name of a session: what is given, or the number that its address has, and for what is left out a leased number and a
-    new incarnation."""
-    client = addressed if client is None and clients is None else client
+    """The name of a session: what is given, and for what is left out a leased number, which is that of its address where this
+    has one, and a new incarnation."""
     if client is None:
         checked(incarnation is None, "an incarnation is given along with its client number, or left out")
-        return leased(range_of(clients))
+        return leased(range_of(clients) if clients is not None or addressed is None else range(addressed, addressed + 1))
     checked(clients is None, "a client number is given, or a range to lease one from")
     for what, number in (("client", client), ("incarnation", 1 if incarnation is None else incarnation)):
         checked(is_whole(number, 1, GREATEST), f"the {what} is 1 to {GREATEST}: {number!r}")

@@ -36,7 +36,7 @@ class Session:
     """One client in one incarnation: it asks one request at a time, and is used by one thread at a time.
 
     `address` is a text HOST:PORT, a pair of both, or a text rv://HOST:PORT,HOST:PORT?OPTION=VALUE&OPTION=VALUE, whose options
-    are `patience`, `record`, `client` (for one process alone) and `version`; an argument comes before them. Servers beside the
+    are `patience`, `record`, `client` (the number to lease) and `version`; an argument comes before them. Servers beside the
     first are alternatives of it: after a lost connection the next one is asked at once, and each that is silent before its
     welcome has an equal share of the call's time. Left out, it is what the environment says in RV_SERVER, or 127.0.0.1:7411.
 
