@@ -143,7 +143,7 @@ IN_PYTHON = [
     WrongClient("closes no shard behind one that tells something", "test_shards.Unclaimed.test_a_close_that_tells_something", [
         Edit(SHARDS, "ends.callback(one.__exit__, kind, fault, trace)", "one.__exit__(kind, fault, trace)")]),
     WrongClient("leases a number beside its address's", "test_addresses.Given.test_options", [
-        Edit(LEASES, "addressed if client is None and clients is None else client", "client")]),
+        Edit(LEASES, "if clients is not None or addressed is None else", "if addressed is None or addressed else")]),
     WrongClient("finds out by its first reply that it can't record", "test_record.Before.test_a_folder", [
         Edit(RECORD, "    record.check()\n", "")]),
     WrongClient("takes a wrong time for a right one", "test_words.Arguments.test_of_a_call", [
