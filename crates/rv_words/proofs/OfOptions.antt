@@ -1,5 +1,4 @@
 -- The lemmas that the proofs of this crate share.
 pub mod Bare
 pub mod Keeping
-pub mod Listing
 pub mod Refusals

@@ -4,15 +4,17 @@ use Rattle.clap.specs.Words.{App, IsAmong, Text, fault_of, kind_of, with_subcomm
 use Rattle.clap.specs.declared.error.kind.ErrorKind.{ErrorKind}
 use Rattle.clap.specs.declared.error.kind.ErrorKind.TheVariants.{DisplayHelp}
 use Rattle.rv_words.specs.options.Words.{host_app}
-use Rattle.rv_words.specs.Program.{rv_app, with_commands}
+use Rattle.rv_words.specs.Listed.{with_apps}
+use Rattle.rv_words.specs.Program.{command_app, rv_app}
 use Rattle.rv_words.specs.Verifying.{verify_app}
 use Rattle.rv_words.specs.declared.helping.HelpAnswer.{HelpAnswer}
 
 -- the program with all its commands, `record --to FILE`, as help shows it, `version`, `verify` and `host` too
 abbrev pub help_app : App
 help_app =
-    let recording = with_commands rv_app ((codes "record", codes "to" ∷ []) ∷ (codes "version", []) ∷ []) in
-    with_subcommand (with_subcommand recording verify_app.top) host_app.top
+    let others = with_apps rv_app
+    (command_app (codes "record") (codes "to" ∷ []) ∷ command_app (codes "version") [] ∷ verify_app ∷ []) in
+    with_subcommand others host_app.top
 
 -- the answer is of a kind that clap finds for the words
 abbrev pub IsHelpFor : List Text → HelpAnswer → Type 0

@@ -2,6 +2,7 @@
 pub mod Beginning
 pub mod Durations
 pub mod Helping
+pub mod Listed
 pub mod Program
 pub mod Recorded
 pub mod Verifying

@@ -2,7 +2,6 @@
 pub mod Epochs
 pub mod Faults
 pub mod Laws
-pub mod Listed
 pub mod Numbers
 pub mod Options
 pub mod Words

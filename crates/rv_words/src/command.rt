@@ -120,12 +120,12 @@ fn serve_of<'a>(options: &ArgMatches<'a>) -> Option<Command<'a>>
 {
     let listen = text_of(options, "listen")?;
     let epoch = identifier_of(options, "epoch")?;
-    let workers = number_of(options, "workers", 1, MAX_WORKERS)?;
+    let workers = workers_of(options)?;
     let connections = count_of(options, "connections")?;
     Some(Command::Serve {
         listen,
         epoch,
-        workers: workers as usize,
+        workers,
         connections,
     })
 }
@@ -194,6 +194,16 @@ fn duration_of(options: &ArgMatches, name: &str) -> Option<u64>
         → ¬ GivesDuration (first_of name.now (rows_of (found_of options.now))) n }
 {
     read_duration(text_of(options, name)?)
+}
+
+// The number of workers that the option for it writes.
+fn workers_of(options: &ArgMatches) -> Option<usize>
+    ensures some { IfSome result
+        (GivesBetween 1 64 (first_of (codes "workers") (rows_of (found_of options.now)))) }
+    ensures none { result ≡ None → (n : ℕ)
+        → ¬ GivesBetween 1 64 (first_of (codes "workers") (rows_of (found_of options.now))) n }
+{
+    Some(number_of(options, "workers", 1, MAX_WORKERS)? as usize)
 }
 
 // The count that an option's value writes.

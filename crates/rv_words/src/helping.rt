@@ -6,9 +6,10 @@ ghost use Rattle.rv_words.specs.Beginning.{BeginWithout};
 ghost use Rattle.rv_words.specs.Helping.{IsHelpFor, help_app, help_status};
 
 use crate::fault::CommandFault;
+use crate::listed::{ListedCommand, ListedOption, NEEDED, with_commands};
 use crate::options::host_words;
-use crate::program::{program, with_command, with_commands};
-use crate::verifying;
+use crate::program::program;
+use crate::verifying::VERIFY;
 use crate::words::words_from;
 use clap::error::ErrorKind;
 use std::alloc::{AllocError, Global};
@@ -85,7 +86,26 @@ fn whole_program<'a>(alloc: Global) -> Result<clap::Command<'a>, AllocError>
     ensures { IfOk result (λ c. app_of c ≡ help_app) }
 {
     let program = program(alloc)?.bin_name("rv")?;
-    let recording = with_commands(alloc, program, &[("record", &["to"]), ("version", &[])])?;
-    let verifying = with_command(recording, verifying::command(alloc))?;
-    with_command(verifying, host_words(alloc))
+    let program = with_commands(alloc, program, OTHERS)?;
+    let host = host_words(alloc)?;
+    program.subcommand(host)
 }
+
+// The commands that read their words themselves, but for `host`.
+const OTHERS: &[ListedCommand] = &[
+    ListedCommand {
+        name: "record",
+        about: "Do as call does, and append each request and its reply to a file: --to FILE, then its options",
+        options: &[ListedOption {
+            name: "to",
+            help: "The file to which each request and its reply are appended",
+            ..NEEDED
+        }],
+    },
+    ListedCommand {
+        name: "version",
+        about: "Print the version of this build",
+        options: &[],
+    },
+    VERIFY,
+];

@@ -4,7 +4,7 @@ ghost use Rattle.std.specs.Prelude.{option_map, true};
 ghost use Rattle.clap.specs.Walk.{texts};
 ghost use Rattle.clap.specs.Words.{fault_of, first_of, found_of, matches_of, rows_of};
 ghost use Rattle.rv_words.specs.options.Epochs.{FitsRule, SaysRule};
-ghost use Rattle.rv_words.specs.options.Faults.{IsFault, IsFaultOf};
+ghost use Rattle.rv_words.specs.options.Faults.{IsFault, IsFaultOf, WantsStore};
 ghost use Rattle.rv_words.specs.options.Numbers.{Fits, GivesNumber, given_for};
 ghost use Rattle.rv_words.specs.options.Options.{FitOptions, NamesOptions, SaysOptions};
 ghost use Rattle.rv_words.specs.options.Words.{host_app};
@@ -23,7 +23,7 @@ pub use fault::HostFault;
 pub use number::HostNumber;
 use std::alloc::Global;
 pub use version::VERSION;
-pub use words::{ListedOption, host_words, with_options};
+pub use words::host_words;
 
 /// The options of `rv host`.
 #[derive(Clone, Copy)]
@@ -134,6 +134,7 @@ fn epoch_of<'a>(given: &ArgMatches<'a>) -> Result<EpochRule, HostFault<'a>>
 
 // Whether a flag is there, for which there has to be a store.
 fn flag_in_store<'a>(given: &ArgMatches<'a>, word: &'static str) -> Result<bool, HostFault<'a>>
+    requires { WantsStore word.now }
     ensures ok { IfOk result (λ is_there. IsTrue is_there
         ↔ (first_of word.now (rows_of (found_of given.now)) ≡ Some (codes "true"))) }
     ensures in_store { IfOk result (λ is_there. IsTrue is_there
@@ -156,12 +157,11 @@ fn store_of<'a>(given: &ArgMatches<'a>) -> Result<Option<&'a str>, HostFault<'a>
         is_some (first_of (codes "account") (rows_of (found_of given.now))) ≡ true → store ≡ None) }
     ensures fault { IfErr result (IsFaultOf (rows_of (found_of given.now))) }
 {
-    let Some(store) = text_of(given, "store") else {
-        return Ok(None);
-    };
-    match text_of(given, "account") {
-        Some(_) => Err(HostFault::TwoAccounts),
-        None => Ok(Some(store)),
+    let store = text_of(given, "store");
+    if store.is_some() && text_of(given, "account").is_some() {
+        Err(HostFault::TwoAccounts)
+    } else {
+        Ok(store)
     }
 }
 

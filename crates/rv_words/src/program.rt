@@ -1,16 +1,13 @@
 //! The program's commands and their options, as `clap` reads them.
-ghost use Rattle.std.specs.Prelude.{◌≡◌, [], codes, false, IfOk, IsErrOf};
-ghost use Rattle.clap.specs.Words.{Shape, app_of, fault_of, new_app, rule_of, shape_of, subcommand_of};
-ghost use Rattle.clap.specs.Words.{subcommand_rows_of, with_subcommand};
+ghost use Rattle.std.specs.Prelude.{◌≡◌, [], IfOk, IsErrOf};
+ghost use Rattle.clap.specs.Words.{app_of, fault_of, subcommand_of, subcommand_rows_of};
 ghost use Rattle.clap.specs.Walk.{texts};
-ghost use Rattle.clap.specs.declared.Command.TheViews.{out-Command};
-ghost use Rattle.rv_words.specs.Program.{command_app, listed_commands, required_option, rv_app};
-ghost use Rattle.rv_words.specs.Program.{with_commands, with_options};
+ghost use Rattle.rv_words.specs.Program.{rv_app};
 
 use crate::fault::CommandFault;
+use crate::listed::{ListedCommand, ListedOption, NEEDED, named, with_commands};
 use crate::reading::taken;
-use crate::texts::{about, option_help};
-use clap::{Arg, ArgAction, ArgMatches, Command};
+use clap::{ArgMatches, Command};
 use std::alloc::{AllocError, Global};
 
 /// The words as `clap` reads them for the program, the program's name first.
@@ -28,83 +25,110 @@ pub fn matches_of<'a>(alloc: Global, words: &'a [&'a str]) -> Result<ArgMatches<
 pub(crate) fn program<'a>(alloc: Global) -> Result<Command<'a>, AllocError>
     ensures { IfOk result (λ c. app_of c ≡ rv_app) }
 {
-    with_commands(alloc, named(alloc, "rv"), COMMANDS)
+    with_commands(alloc, named(alloc, "rv", ABOUT), COMMANDS)
 }
+
+// What help says of it.
+const ABOUT: &str =
+    "A rendezvous server: hands items from program to program, and tells each what came of it";
 
 // Its commands, each with the options that have to be given.
-const COMMANDS: &[(&str, &[&str])] = &[
-    ("book", &["epoch"]),
-    ("play", &[]),
-    ("audit", &[]),
-    ("serve", &["listen", "epoch", "workers", "connections"]),
-    (
-        "call",
-        &["connect", "client", "incarnation", "tries", "speak"],
-    ),
-    ("end", &["status", "connect", "older"]),
+const COMMANDS: &[ListedCommand] = &[
+    ListedCommand {
+        name: "book",
+        about: "Run the messages of standard input through a book, and print the answers",
+        options: &[ListedOption {
+            name: "epoch",
+            help: "The epoch, 1 to 9,007,199,254,740,991: greater at each start",
+            ..NEEDED
+        }],
+    },
+    ListedCommand {
+        name: "play",
+        about: "Act out the events of standard input, over links that lose and delay",
+        options: &[],
+    },
+    ListedCommand {
+        name: "audit",
+        about: "Audit the account on standard input",
+        options: &[],
+    },
+    ListedCommand {
+        name: "serve",
+        about: "Serve a number of connections, and print the account at the end",
+        options: &[
+            ListedOption {
+                name: "listen",
+                help: "Where it listens, as 127.0.0.1:7411",
+                ..NEEDED
+            },
+            ListedOption {
+                name: "epoch",
+                help: "The epoch, 1 to 9,007,199,254,740,991: greater at each start",
+                ..NEEDED
+            },
+            ListedOption {
+                name: "workers",
+                help: "How many connections are served at once, 1 to 64",
+                ..NEEDED
+            },
+            ListedOption {
+                name: "connections",
+                help: "How many connections come before it ends",
+                ..NEEDED
+            },
+        ],
+    },
+    ListedCommand {
+        name: "call",
+        about: "Make the calls of standard input, one a line, and print the replies",
+        options: &[
+            ListedOption {
+                name: "connect",
+                help: "Where the server listens",
+                ..NEEDED
+            },
+            ListedOption {
+                name: "client",
+                help: "The client's number, 1 to 9,007,199,254,740,991",
+                ..NEEDED
+            },
+            ListedOption {
+                name: "incarnation",
+                help: "The client's incarnation: greater at each start",
+                ..NEEDED
+            },
+            ListedOption {
+                name: "tries",
+                help: "How often each message is sent, at most",
+                ..NEEDED
+            },
+            ListedOption {
+                name: "speak",
+                help: "The version of the messages, 1 or 2",
+                ..NEEDED
+            },
+        ],
+    },
+    ListedCommand {
+        name: "end",
+        about: "End the requests that have waited for so long with no connection, by hellos of greater incarnations",
+        options: &[
+            ListedOption {
+                name: "status",
+                help: "Where the server tells how it is",
+                ..NEEDED
+            },
+            ListedOption {
+                name: "connect",
+                help: "Where the server listens",
+                ..NEEDED
+            },
+            ListedOption {
+                name: "older",
+                help: "For how long, as 60s or 10m: longer than clients take to connect anew, else these lose theirs",
+                ..NEEDED
+            },
+        ],
+    },
 ];
-
-/// The program with these commands too.
-pub(crate) fn with_commands<'a>(
-    alloc: Global,
-    program: Command<'a>,
-    commands: &'a [(&'a str, &'a [&'a str])],
-) -> Result<Command<'a>, AllocError>
-    ensures { IfOk result (λ c.
-        app_of c ≡ with_commands (app_of program.entry) (listed_commands commands.entry.now)) }
-{
-    let mut program = program;
-    for (name, options) in commands {
-        program = with_command(program, command(alloc, name, options))?;
-    }
-    Ok(program)
-}
-
-/// The program with a command, if there was memory for it.
-pub(crate) fn with_command<'a>(
-    program: Command<'a>,
-    command: Result<Command<'a>, AllocError>,
-) -> Result<Command<'a>, AllocError>
-    requires { IfOk command (λ c. (out-Command c).has_globals ≡ false) }
-    ensures { (s : Shape) → IfOk command.entry (λ c. shape_of c ≡ s)
-        → IfOk result (λ p. app_of p ≡ with_subcommand (app_of program.entry) s) }
-{
-    program.subcommand(command?)
-}
-
-// A command of this name with these options, which have to be given.
-fn command<'a>(
-    alloc: Global,
-    name: &'a str,
-    options: &'a [&'a str],
-) -> Result<Command<'a>, AllocError>
-    ensures shape { IfOk result (λ c.
-        shape_of c ≡ (command_app name.entry.now (texts options.entry.now)).top) }
-    ensures local { IfOk result (λ c. (out-Command c).has_globals ≡ false) }
-{
-    let mut command = named(alloc, name);
-    for option in options {
-        command = command.arg(required_option(alloc, option))?;
-    }
-    Ok(command)
-}
-
-/// A command of this name, with no option yet, and what help says of it.
-pub(crate) fn named<'a>(alloc: Global, name: &'a str) -> Command<'a>
-    ensures app { app_of result ≡ new_app name.entry.now }
-    ensures local { (out-Command result).has_globals ≡ false }
-{
-    Command::new(alloc, name).about(about(name))
-}
-
-// An option `--name VALUE` that has to be given.
-fn required_option<'a>(alloc: Global, name: &'a str) -> Arg<'a>
-    ensures rule { rule_of result ≡ required_option name.entry.now }
-    ensures local { result.global ≡ false }
-{
-    Arg::new(alloc, name)
-        .long(name)
-        .required(true)
-        .action(ArgAction::Set)
-        .help(option_help(name))
-}

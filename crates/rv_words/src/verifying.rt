@@ -1,21 +1,18 @@
 //! Reads the words of `rv verify`.
 ghost use Rattle.std.specs.Prelude.{◌≡◌, ◌∷◌, ◌↔◌, [], codes, false, IfOk, IfSome, IsErrOf, IsTrue};
 ghost use Rattle.std.specs.Prelude.{List, None};
-ghost use Rattle.clap.specs.Words.{Text, app_of, fault_of, found_of, matches_of, rows_of, rule_of};
-ghost use Rattle.clap.specs.Words.{shape_of};
+ghost use Rattle.clap.specs.Words.{Text, fault_of, found_of, matches_of, rows_of};
 ghost use Rattle.clap.specs.Walk.{texts};
-ghost use Rattle.clap.specs.declared.Command.TheViews.{out-Command};
 ghost use Rattle.rv_words.specs.Verifying.{BeginOtherwise, ClapSays, NamesNoVerify, NamesVerify};
 ghost use Rattle.rv_words.specs.Verifying.{SaysVerify};
-ghost use Rattle.rv_words.specs.Verifying.{file_rule, verify_app};
+ghost use Rattle.rv_words.specs.Verifying.{verify_app};
 
 use crate::fault::CommandFault;
-use crate::options::{ListedOption, with_options};
-use crate::program::named;
+use crate::listed::{FLAG, ListedCommand, ListedOption, NEEDED, OPTIONAL, listed_command};
 use crate::reading::{is_given, taken, text_of};
 use crate::words::words_from;
-use clap::{Arg, ArgAction, ArgMatches};
-use std::alloc::{AllocError, Global};
+use clap::ArgMatches;
+use std::alloc::Global;
 
 /// The word for standard input.
 pub const STANDARD_INPUT: &str = "-";
@@ -88,46 +85,29 @@ fn matches_in<'a>(alloc: Global, own: &'a [&'a str]) -> Result<ArgMatches<'a>, C
     ensures bad { IsErrOf result CommandFault.Bad
         → ¬ (fault_of verify_app (texts own.entry.now) ≡ []) }
 {
-    taken(command(alloc)?, own)
+    taken(listed_command(alloc, &VERIFY)?, own)
 }
 
-/// `verify FILE --replies FILE --follow`, as clap reads it.
-pub(crate) fn command<'a>(alloc: Global) -> Result<clap::Command<'a>, AllocError>
-    ensures app { IfOk result (λ c. app_of c ≡ verify_app) }
-    ensures shape { IfOk result (λ c. shape_of c ≡ verify_app.top) }
-    ensures local { IfOk result (λ c. (out-Command c).has_globals ≡ false) }
-{
-    let command = named(alloc, "verify").arg(file_word(alloc))?;
-    with_options(alloc, command, OPTIONS)
-}
-
-// Its options.
-const OPTIONS: &[ListedOption] = &[
-    ListedOption {
-        name: "replies",
-        values: &[],
-        required: false,
-        action: ArgAction::Set,
-        usual: &[],
-        help: "A file of recorded replies, each of which the account has to keep",
-    },
-    ListedOption {
-        name: "follow",
-        values: &[],
-        required: false,
-        action: ArgAction::SetTrue,
-        usual: &[],
-        help: "Go on as the file grows",
-    },
-];
-
-// A value that has to be given, with no option before it.
-fn file_word<'a>(alloc: Global) -> Arg<'a>
-    ensures rule { rule_of result ≡ file_rule }
-    ensures local { result.global ≡ false }
-{
-    Arg::new(alloc, "FILE")
-        .required(true)
-        .action(ArgAction::Set)
-        .help("The account's file, a store's folder, or - for standard input")
-}
+/// `verify FILE --replies FILE --follow`, as help shows it and clap reads it.
+pub(crate) const VERIFY: ListedCommand = ListedCommand {
+    name: "verify",
+    about: "Verify the account in a file or a store, or on standard input by -, and a record of replies",
+    options: &[
+        ListedOption {
+            name: "FILE",
+            positional: true,
+            help: "The account's file, a store's folder, or - for standard input",
+            ..NEEDED
+        },
+        ListedOption {
+            name: "replies",
+            help: "A file of recorded replies, each of which the account has to keep",
+            ..OPTIONAL
+        },
+        ListedOption {
+            name: "follow",
+            help: "Go on as the file grows",
+            ..FLAG
+        },
+    ],
+};

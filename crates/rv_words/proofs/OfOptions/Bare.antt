@@ -1,5 +1,5 @@
 -- What clap makes of words that name nothing but an address.
-use Rattle.std.proofs.Common.{◌≡◌, ◌∙◌, [], ap, arith, Bool, Bor, codes, false, get_or, List, lit<, lit≤}
+use Rattle.std.proofs.Common.{◌≡◌, ◌∙◌, ◌∷◌, [], ap, arith, Bool, Bor, codes, false, get_or, List, lit<, lit≤}
 use Rattle.std.proofs.Common.{None, Option}
 use Rattle.std.proofs.Common.{option_map, refl, Some, subst, sym, true, ℕ}
 use Rattle.std.proofs.lemmas.Option.{same_Some}
@@ -7,9 +7,12 @@ use Rattle.std.specs.Option.{IsSomeAnd}
 use Rattle.std.specs.Str.Parse.{digits_value, without_leading_plus}
 use Rattle.clap.proofs.OnLiterals.{clap_on_literals}
 use Rattle.clap.specs.Words.{Row, Text, fault_of, first_of, matches_of}
+use Rattle.clap.specs.declared.builder.value_parser.Reading.TheVariants.{AsWritten}
+use Rattle.clap.specs.declared.parser.matches.ValueSource.{ValueSource}
+use Rattle.clap.specs.declared.parser.matches.ValueSource.TheVariants.{CommandLine, DefaultValue}
 use Rattle.rv_words.specs.options.Laws.{BareAlone, BareAreNamed, bare_words}
 use Rattle.rv_words.specs.options.Words.{host_app}
-use Rattle.rv_words.specs.options.Options.{SaysFlag}
+use Rattle.rv_words.specs.options.Options.{SaysFlag, SaysOptions}
 use Rattle.rv_words.specs.options.Epochs.{SaysRule}
 use Rattle.rv_words.specs.options.Numbers.{GivesNumber, WritesWithin, given_for}
 use Rattle.rv_words.specs.declared.options.epoch.EpochRule.{EpochRule}
@@ -17,84 +20,39 @@ use Rattle.rv_words.specs.declared.options.epoch.EpochRule.TheVariants.{Above, C
 use Rattle.rv_words.specs.declared.options.number.HostNumber.{HostNumber}
 use Rattle.rv_words.specs.declared.options.number.HostNumber.TheVariants as number
 
+-- a row with one value
+abbrev row : Text → ValueSource → Text → Row
+row name source value = record {
+  id = name;
+  values = value ∷ [];
+  count = None;
+  source = Some source;
+  reading = AsWritten;
+}
+
+-- the address, and then each default in the order of the options
 abbrev rows : List Row
-rows = matches_of host_app bare_words
+rows = row (codes "listen") CommandLine (codes "127.0.0.1:7411")
+    ∷ row (codes "new-epoch") DefaultValue (codes "false")
+    ∷ row (codes "no-sync") DefaultValue (codes "false")
+    ∷ row (codes "clients") DefaultValue (codes "65536")
+    ∷ row (codes "open") DefaultValue (codes "100000")
+    ∷ row (codes "connections") DefaultValue (codes "10000")
+    ∷ row (codes "connections-from") DefaultValue (codes "1000000")
+    ∷ row (codes "memory") DefaultValue (codes "256")
+    ∷ row (codes "idle") DefaultValue (codes "3600")
+    ∷ row (codes "stall") DefaultValue (codes "30")
+    ∷ row (codes "quiet") DefaultValue (codes "false")
+    ∷ []
+
+-- what clap finds, evaluated once
+found : matches_of host_app bare_words ≡ rows
+unfolding clap_on_literals
+found = refl
 
 taken : fault_of host_app bare_words ≡ []
 unfolding clap_on_literals
 taken = refl
-
-listen_row : first_of (codes "listen") rows ≡ Some (codes "127.0.0.1:7411")
-unfolding clap_on_literals
-listen_row = refl
-
-account_row : first_of (codes "account") rows ≡ None
-unfolding clap_on_literals
-account_row = refl
-
-store_row : first_of (codes "store") rows ≡ None
-unfolding clap_on_literals
-store_row = refl
-
-status_row : first_of (codes "status") rows ≡ None
-unfolding clap_on_literals
-status_row = refl
-
-names_row : first_of (codes "status-name") rows ≡ None
-unfolding clap_on_literals
-names_row = refl
-
-epoch_row : given_for number.Epoch rows ≡ None
-unfolding clap_on_literals
-epoch_row = refl
-
-above_row : given_for number.EpochAbove rows ≡ None
-unfolding clap_on_literals
-above_row = refl
-
-begin_row : first_of (codes "new-epoch") rows ≡ Some (codes "false")
-unfolding clap_on_literals
-begin_row = refl
-
-sync_row : first_of (codes "no-sync") rows ≡ Some (codes "false")
-unfolding clap_on_literals
-sync_row = refl
-
-boot_row : first_of (codes "boot") rows ≡ None
-unfolding clap_on_literals
-boot_row = refl
-
-clients_row : given_for number.Clients rows ≡ Some (codes "65536")
-unfolding clap_on_literals
-clients_row = refl
-
-open_row : given_for number.Open rows ≡ Some (codes "100000")
-unfolding clap_on_literals
-open_row = refl
-
-connections_row : given_for number.Connections rows ≡ Some (codes "10000")
-unfolding clap_on_literals
-connections_row = refl
-
-from_row : given_for number.ConnectionsFrom rows ≡ Some (codes "1000000")
-unfolding clap_on_literals
-from_row = refl
-
-memory_row : given_for number.Memory rows ≡ Some (codes "256")
-unfolding clap_on_literals
-memory_row = refl
-
-idle_row : given_for number.Idle rows ≡ Some (codes "3600")
-unfolding clap_on_literals
-idle_row = refl
-
-stall_row : given_for number.Stall rows ≡ Some (codes "30")
-unfolding clap_on_literals
-stall_row = refl
-
-quiet_row : first_of (codes "quiet") rows ≡ Some (codes "false")
-unfolding clap_on_literals
-quiet_row = refl
 
 clients_written : WritesWithin number.Clients (codes "65536") 65536
 clients_written = record {
@@ -191,61 +149,63 @@ no_text (Some t) is = absurd (cc)
 
 by_clock : (rule : EpochRule) → SaysRule rows rule → rule ≡ Clock
 by_clock Clock says = refl
-by_clock (Exactly e) says = absurd (none_given number.Epoch rows e epoch_row says.0)
-by_clock (Above n) says = absurd (none_given number.EpochAbove rows n above_row says.1)
+by_clock (Exactly e) says = absurd (none_given number.Epoch rows e refl says.0)
+by_clock (Above n) says = absurd (none_given number.EpochAbove rows n refl says.1)
 
 pub bare_named : BareAreNamed
 bare_named options bare = record {
   taken = taken;
-  said = record {
-    listens = listen_row ∙ ap Some (sym bare.listens);
-    keeps = account_row ∙ ap (option_map (λ (f : Bor Text). f.now)) (sym bare.keeps_none);
-    stores = store_row ∙ ap (option_map (λ (f : Bor Text). f.now)) (sym bare.stores_none);
+  said = subst (λ (r : List Row). SaysOptions r options) (sym found) record {
+    listens = ap Some (sym bare.listens);
+    keeps = ap (option_map (λ (f : Bor Text). f.now)) (sym bare.keeps_none);
+    stores = ap (option_map (λ (f : Bor Text). f.now)) (sym bare.stores_none);
     one_account = λ _. bare.stores_none;
-    tells = status_row ∙ ap (option_map (λ (t : Bor Text). t.now)) (sym bare.tells_none);
-    tells_as = names_row ∙ ap (option_map (λ (t : Bor Text). t.now)) (sym bare.tells_as_none);
-    in_epoch = subst (λ (rule : EpochRule). SaysRule rows rule) (sym bare.by_clock) (epoch_row, above_row);
-    begins = unset options.new_epoch (codes "new-epoch") bare.begins_none begin_row;
-    unsynced = unset options.no_sync (codes "no-sync") bare.syncs sync_row;
+    tells = ap (option_map (λ (t : Bor Text). t.now)) (sym bare.tells_none);
+    tells_as = ap (option_map (λ (t : Bor Text). t.now)) (sym bare.tells_as_none);
+    in_epoch = subst (λ (rule : EpochRule). SaysRule rows rule) (sym bare.by_clock) (refl, refl);
+    begins = unset options.new_epoch (codes "new-epoch") bare.begins_none refl;
+    unsynced = unset options.no_sync (codes "no-sync") bare.syncs refl;
     in_store = record {
       begins = λ set. absurd (false_flag options.new_epoch bare.begins_none set);
       unsynced = λ set. absurd (false_flag options.no_sync bare.syncs set);
     };
-    boots = boot_row ∙ ap (option_map (λ (b : Bor Text). b.now)) (sym bare.boots_none);
-    clients = given number.Clients rows (codes "65536") 65536 options.clients clients_row clients_written
+    boots = ap (option_map (λ (b : Bor Text). b.now)) (sym bare.boots_none);
+    clients = given number.Clients rows (codes "65536") 65536 options.clients refl clients_written
         bare.clients;
-    opens = given number.Open rows (codes "100000") 100000 options.open_places open_row open_written
+    opens = given number.Open rows (codes "100000") 100000 options.open_places refl open_written
         bare.opens;
-    connects = given number.Connections rows (codes "10000") 10000 options.connections connections_row
+    connects = given number.Connections rows (codes "10000") 10000 options.connections refl
         connections_written bare.connects;
     connects_from = given number.ConnectionsFrom rows (codes "1000000") 1000000 options.connections_from
-        from_row from_written bare.connects_from;
-    holds = given number.Memory rows (codes "256") 256 options.memory memory_row memory_written bare.holds;
-    idles = given number.Idle rows (codes "3600") 3600 options.idle idle_row idle_written bare.idles;
-    stalls = given number.Stall rows (codes "30") 30 options.stall stall_row stall_written bare.stalls;
-    is_quiet = unset options.quiet (codes "quiet") bare.speaks quiet_row;
+        refl from_written bare.connects_from;
+    holds = given number.Memory rows (codes "256") 256 options.memory refl memory_written bare.holds;
+    idles = given number.Idle rows (codes "3600") 3600 options.idle refl idle_written bare.idles;
+    stalls = given number.Stall rows (codes "30") 30 options.stall refl stall_written bare.stalls;
+    is_quiet = unset options.quiet (codes "quiet") bare.speaks refl;
   };
 }
 
 pub bare_alone : BareAlone
-bare_alone options named = record {
-  listens = same_Some _ _ (sym named.said.listens ∙ listen_row);
-  by_clock = by_clock options.epoch named.said.in_epoch;
-  begins_none = true_flag options.new_epoch (λ set. no_flag _ begin_row (named.said.begins.0 set));
-  syncs = true_flag options.no_sync (λ set. no_flag _ sync_row (named.said.unsynced.0 set));
-  boots_none = no_text options.boot (sym boot_row ∙ named.said.boots);
-  keeps_none = no_text options.account (sym account_row ∙ named.said.keeps);
-  stores_none = no_text options.store (sym store_row ∙ named.said.stores);
-  tells_none = no_text options.status (sym status_row ∙ named.said.tells);
-  tells_as_none = no_text options.status_names (sym names_row ∙ named.said.tells_as);
-  clients = given_alone number.Clients rows (codes "65536") options.clients clients_row named.said.clients;
-  opens = given_alone number.Open rows (codes "100000") options.open_places open_row named.said.opens;
-  connects = given_alone number.Connections rows (codes "10000") options.connections connections_row
-      named.said.connects;
-  connects_from = given_alone number.ConnectionsFrom rows (codes "1000000") options.connections_from from_row
-      named.said.connects_from;
-  holds = given_alone number.Memory rows (codes "256") options.memory memory_row named.said.holds;
-  idles = given_alone number.Idle rows (codes "3600") options.idle idle_row named.said.idles;
-  stalls = given_alone number.Stall rows (codes "30") options.stall stall_row named.said.stalls;
-  speaks = true_flag options.quiet (λ set. no_flag _ quiet_row (named.said.is_quiet.0 set));
-}
+bare_alone options named =
+    let said = subst (λ (r : List Row). SaysOptions r options) found named.said in
+    record {
+      listens = same_Some _ _ (sym said.listens);
+      by_clock = by_clock options.epoch said.in_epoch;
+      begins_none = true_flag options.new_epoch (λ set. no_flag _ refl (said.begins.0 set));
+      syncs = true_flag options.no_sync (λ set. no_flag _ refl (said.unsynced.0 set));
+      boots_none = no_text options.boot (said.boots);
+      keeps_none = no_text options.account (said.keeps);
+      stores_none = no_text options.store (said.stores);
+      tells_none = no_text options.status (said.tells);
+      tells_as_none = no_text options.status_names (said.tells_as);
+      clients = given_alone number.Clients rows (codes "65536") options.clients refl said.clients;
+      opens = given_alone number.Open rows (codes "100000") options.open_places refl said.opens;
+      connects = given_alone number.Connections rows (codes "10000") options.connections refl
+          said.connects;
+      connects_from = given_alone number.ConnectionsFrom rows (codes "1000000") options.connections_from refl
+          said.connects_from;
+      holds = given_alone number.Memory rows (codes "256") options.memory refl said.holds;
+      idles = given_alone number.Idle rows (codes "3600") options.idle refl said.idles;
+      stalls = given_alone number.Stall rows (codes "30") options.stall refl said.stalls;
+      speaks = true_flag options.quiet (λ set. no_flag _ refl (said.is_quiet.0 set));
+    }

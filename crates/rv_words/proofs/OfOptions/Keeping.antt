@@ -1,13 +1,17 @@
 -- Where an account is kept, by what the rows of options give.
-use Rattle.std.proofs.Common.{◌≡◌, ◌∙◌, ap, Bool, Bor, None, Option, Some, sym, true}
+use Rattle.std.proofs.Common.{◌≡◌, ◌∙◌, ap, Bool, Bor, false, None, Option, refl, Some, sym, true}
 use Rattle.std.specs.Prelude.{is_some, option_map}
 use Rattle.clap.specs.Words.{Text}
 
 -- a value is there where its row is
-there : (value : Option (Bor Text)) (row : Option Text) → option_map (λ v. v.now) value ≡ row
+pub there : (value : Option (Bor Text)) (row : Option Text) → option_map (λ v. v.now) value ≡ row
     → is_some value ≡ is_some row
 there None row is = ap is_some is
 there (Some text) row is = ap is_some is
+
+pub no_value : (value : Option (Bor Text)) → is_some value ≡ false → value ≡ None
+no_value None is = refl
+no_value (Some text) is = absurd (cc)
 
 pub one_account : (account store : Option (Bor Text)) (row : Option Text)
     → option_map (λ v. v.now) account ≡ row → (is_some row ≡ true → store ≡ None) → is_some account ≡ true

@@ -1,5 +1,5 @@
 -- What is wrong with words that aren't options of `rv host`.
-use Rattle.std.specs.Prelude.{codes, List, ℕ, None, Some, true, is_some, [], ◌≡◌}
+use Rattle.std.specs.Prelude.{codes, List, ℕ, None, Some, true, is_some, [], ◌≡◌, ◌⊎◌}
 use Rattle.clap.specs.Words.{IsAmong, Row, Text, fault_of, first_of, kind_of, matches_of}
 use Rattle.clap.specs.declared.error.Error.{Error}
 use Rattle.clap.specs.declared.error.kind.ErrorKind.{ErrorKind}
@@ -11,6 +11,10 @@ use Rattle.rv_words.specs.declared.options.fault.HostFault.TheVariants.{Missing,
 use Rattle.rv_words.specs.declared.options.fault.HostFault.TheVariants.{NoStore, TwoAccounts, TwoEpochs}
 use Rattle.rv_words.specs.declared.options.number.HostNumber.TheVariants as number
 
+-- the flags that want a store
+abbrev pub WantsStore : Text → Type 0
+WantsStore word = (word ≡ codes "new-epoch") ⊎ (word ≡ codes "no-sync")
+
 -- a fault of options that `clap` accepts, by their rows
 abbrev pub IsFaultOf : List Row → HostFault → Type 0
 IsFaultOf rows (Refused error) = ⊥
@@ -21,7 +25,7 @@ IsFaultOf rows TwoEpochs = (is_some (given_for number.Epoch rows) ≡ true)
     × (is_some (given_for number.EpochAbove rows) ≡ true)
 IsFaultOf rows TwoAccounts = (is_some (first_of (codes "account") rows) ≡ true)
     × (is_some (first_of (codes "store") rows) ≡ true)
-IsFaultOf rows (NoStore word) = (first_of word.now rows ≡ Some (codes "true"))
+IsFaultOf rows (NoStore word) = WantsStore word.now × (first_of word.now rows ≡ Some (codes "true"))
     × (first_of (codes "store") rows ≡ None)
 IsFaultOf rows NoMemory = Unit {0}
 

@@ -1,7 +1,8 @@
 -- The command `host` as `clap` reads it: its options, with their defaults.
 use Rattle.std.specs.Prelude.{Bool, codes, List, Some, true, false, [], ◌∷◌}
-use Rattle.clap.specs.Words.{App, Rule, Text, new_app, new_rule, with_rule}
+use Rattle.clap.specs.Words.{App, Rule, Text, new_app, new_rule}
 use Rattle.clap.specs.declared.builder.ArgAction.TheVariants.{Set, SetTrue}
+use Rattle.rv_words.specs.Listed.{with_rules}
 use Rattle.rv_words.specs.options.Numbers.{option_word}
 use Rattle.rv_words.specs.declared.options.number.HostNumber.{HostNumber}
 use Rattle.rv_words.specs.declared.options.number.HostNumber.TheVariants as number
@@ -18,11 +19,6 @@ number_rule number usual = record (text_rule (option_word number) false) { defau
 -- a flag `--NAME`
 abbrev pub flag_rule : Text → Rule
 flag_rule name = record (new_rule name) { long = Some name; action = Some SetTrue }
-
--- the app with these rules too, one after another
-abbrev pub with_rules : App → List Rule → App
-with_rules app [] = app
-with_rules app (rule ∷ rules) = with_rules (with_rule app rule) rules
 
 -- `host` with its options
 abbrev pub host_app : App

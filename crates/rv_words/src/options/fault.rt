@@ -27,7 +27,7 @@ pub enum HostFault<'a> {
     TwoEpochs,
     /// `--account` and `--store` are both there.
     TwoAccounts,
-    /// The flag of this word is there, and `--store` isn't.
+    /// The flag of this word wants a store and is there, and `--store` isn't.
     NoStore(&'static str),
     /// Memory was refused.
     NoMemory,

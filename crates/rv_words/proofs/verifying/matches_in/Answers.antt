@@ -16,20 +16,20 @@ unfolding clap_on_literals
 simple = refl
 
 pub taken-requires : goal.taken-requires
-taken-requires c = ap is_simple_and_free c.in_ok-command.ensures.app ∙ simple_and_free
+taken-requires c = ap is_simple_and_free c.in_ok-listed_command.ensures.app ∙ simple_and_free
 
 pub returns-clause-taken : goal.returns-clause-taken
 returns-clause-taken c = subst (λ (a : App). IfOk c.taken.result (λ _. fault_of a (texts c.args.own.now) ≡
     []))
-    c.in_ok-command.ensures.app c.taken.ensures.taken
+    c.in_ok-listed_command.ensures.app c.taken.ensures.taken
 
 pub returns-clause-found : goal.returns-clause-found
 returns-clause-found c = IfOk-weaker c.taken.result _ _ (λ m has. (has simple).0)
     (subst (λ (a : App). IfOk c.taken.result (HasMatchesOf a (texts c.args.own.now)))
-    c.in_ok-command.ensures.app
+    c.in_ok-listed_command.ensures.app
     c.taken.ensures.found)
 
 pub returns-clause-bad : goal.returns-clause-bad
 returns-clause-bad c bad none =
-    c.taken.ensures.bad bad (ap (λ (a : App). fault_of a (texts c.args.own.now)) c.in_ok-command.ensures.app
+    c.taken.ensures.bad bad (ap (λ (a : App). fault_of a (texts c.args.own.now)) c.in_ok-listed_command.ensures.app
     ∙ none)

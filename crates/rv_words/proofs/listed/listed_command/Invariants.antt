@@ -2,13 +2,12 @@
 use Rattle.std.proofs.Common.{◌≡◌, drop, false, map}
 use Rattle.clap.specs.Words.{app_of}
 use Rattle.clap.specs.declared.Command.TheViews.{out-Command}
-use Rattle.rv_words.specs.options.Listed.{listed_rule}
-use Rattle.rv_words.specs.options.Words.{with_rules}
-use Rattle.rv_words.proofs.options.words.with_options.Given as goal
+use Rattle.rv_words.specs.Listed.{listed_app, listed_rule, with_rules}
+use Rattle.rv_words.proofs.listed.listed_command.Given as goal
 
 abbrev pub invariant-loop-option : goal.invariant-loop-option
 invariant-loop-option l = record {
-  app : with_rules (app_of l.command) (map listed_rule (drop l.option-index l.options))
-      ≡ with_rules (app_of l.fn.command) (map listed_rule l.options);
+  app : with_rules (app_of l.command) (map listed_rule (drop l.option-index l.listed.options.now))
+      ≡ listed_app l.listed;
   local : (out-Command l.command).has_globals ≡ false;
 }
