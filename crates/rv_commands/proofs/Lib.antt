@@ -1,0 +1,3 @@
+-- The lemmas that the proofs of this crate share.
+pub mod Items
+pub mod OfCalls
