@@ -4,7 +4,7 @@ PROGRAM = crates/rv_app/out/rv_app
 # the program for tests
 STEPS = crates/rv_steps/out/rv_steps
 
-.PHONY: run demo test check edits torture soak install deb package-test bench build
+.PHONY: run demo test check edits torture soak install deb package-test site bench build
 
 # the four answers of the first example, and a hand-over between two programs, by the proved program
 run: build
@@ -62,6 +62,11 @@ deb: build
 # that package, installed, used and removed in a bare Debian: it needs root, and debootstrap with a network, or a Debian in the folder BARE
 package-test: deb
 	@python3 -B -m tests.package.tried out/rv_*_amd64.deb $(BARE)
+
+# the documents as pages for a browser, from out/site/index.html on: it needs Debian's cmark-gfm
+site:
+	@command -v python3 > /dev/null || { echo "python3 is missing: tools/website.py is written in it" >&2; exit 1; }
+	@python3 -B -m tools.website
 
 # what a machine and rv verify take as entries grow, and what a machine holds; what a hub's connection holds and its events cost; a
 # journal's piece, and a start of a store after 10,000,000 entries; the instructions of a line, if valgrind is there;

@@ -45,6 +45,7 @@ MODULES = [
     "clients.wrong_clients",
     "package.run",
     "status.run",
+    "website.run",
 ]
 # Those that run where they are named alone, since they need more than the programs, or much time.
 BY_NAME: list[str] = [

@@ -13,11 +13,11 @@ import re
 import shutil
 import subprocess
 import sys
-from typing import Iterator, List, Tuple
+from typing import Iterator, List, Set, Tuple
 
 ROOT = pathlib.Path(__file__).resolve().parents[1]
 sys.dont_write_bytecode, sys.path[0] = True, str(ROOT)
-from tools.edit_files import Edit, public_functions  # noqa: E402
+from tools import edit_files, headings  # noqa: E402
 from tests.catalog import BY_NAME, MODULES  # noqa: E402
 from tools.crates import limits as limits_of_crates  # noqa: E402
 
@@ -305,36 +305,28 @@ def functions():
     Laws have no code to edit.
     """
     for folder in sorted(ROOT.glob("crates/*")):
-        edits = {kind: [Edit(path, folder) for path in (folder / kind).glob("*.edit")] for kind in KINDS}
+        edits = {kind: [edit_files.Edit(path, folder) for path in (folder / kind).glob("*.edit")] for kind in KINDS}
         for edit in sum(edits.values(), []):
             check(not edit.wrong, f"{folder.name}, {edit.name}: {edit.wrong}")
         for edit in edits["test-edits"]:
             check(edit.test_stands(), f"{folder.name}, {edit.name}: there is no test {edit.test}")
         proved = edits["must-fail"] + edits["edits"]
         changed = {pattern.pattern for edit in proved if not edit.wrong for pattern in edit.functions() if pattern}
-        for at, pattern in public_functions(folder).items():
+        for at, pattern in edit_files.public_functions(folder).items():
             name = f"{folder.name}, {at}"
             if folder.name not in TESTS and not BESIDE.match(at) and pattern.pattern not in NO_WRONG_BODY:
                 check(pattern.pattern in changed, f"{name}: no edit is in this public function")
 
 
-def slug(heading):
-    """The anchor of a heading."""
-    text = re.sub(r"\[([^\]]*)\]\([^)]*\)", r"\1", heading).replace("`", "").strip().lower()
-    return re.sub(r"[^\w\- ]", "", text).replace(" ", "-")
+def unmarked(heading: str) -> str:
+    """The words of a heading, without the marks of links and of code."""
+    return re.sub(r"\[([^\]]*)\]\([^)]*\)", r"\1", heading).replace("`", "")
 
 
-def anchors(path):
+def anchors(path: pathlib.Path) -> Set[str]:
     """The anchors of a document."""
-    found = collections.Counter()
-    names = set()
-    for line in prose(path):
-        heading = re.match(r"#+ +(.*)", line)
-        if heading:
-            name = slug(heading[1])
-            names.add(f"{name}-{found[name]}" if found[name] else name)
-            found[name] += 1
-    return names
+    found = filter(None, (re.match(r"#+ +(.*)", line) for line in prose(path)))
+    return set(headings.anchors_of(unmarked(heading[1]) for heading in found))
 
 
 def links():

@@ -29,7 +29,8 @@ print("1 passed, 0 failed")
 """
 # What runs cases, one of each kind that needs a tool.
 RUN = [sys.executable, "-B", "-m", "tests"]
-NEED_TOOLS = ["status.run", "package.run", "clients.java: the java process", "clients.browser: a browser shows each picture"]
+NEED_TOOLS = ["status.run", "package.run", "website.run", "clients.java: the java process",
+              "clients.browser: a browser shows each picture"]
 ALL_IS_THERE = ["echo", "1 passed, 0 failed"]
 
 
@@ -45,13 +46,14 @@ def last_lines(*commands):
 
 
 def what_is_left_out_is_told(program: str) -> None:
-    """Each thing that the tests of clients, package and page leave out, once, with the tool; with all tools, that nothing was."""
+    """Each thing that these tests leave out, once, with the tool; with all tools, that nothing was."""
     told, _ = last_lines([*RUN, "--program", program, *NEED_TOOLS], [*RUN, "--selftest", "clients.wrong_clients: in java"],
                          [sys.executable, "-B", "-c", NO_JUNIT])
     demand(told.startswith("left out for want of a tool: "), told)
     for what, tool in [
         ("the status page in a browser", "chromium"), ("the metrics and alerts", "promtool is missing"),
-        ("the Debian package", "git is missing"), ("the pictures in a browser", "chromium"),
+        ("the Debian package", "git is missing"), ("the documents as pages", "cmark-gfm is missing"),
+        ("the pictures in a browser", "chromium"),
         ("the Java client", "javac is missing"), ("the Java package by Maven", "junit-jupiter-api.jar is missing"),
     ]:
         parts = [part for part in told.partition(": ")[2].split("; ") if part.startswith(f"{what} (")]

@@ -1,0 +1,1 @@
+"""The documents as pages for a browser."""
