@@ -7,3 +7,4 @@ pub mod Listing
 pub mod Cutting
 pub mod OfOptions
 pub mod OfCommand
+pub mod OfShell

@@ -7,5 +7,6 @@ pub mod Program
 pub mod Recorded
 pub mod Verifying
 pub mod Versions
+pub mod shell
 pub mod options
 pub mod command

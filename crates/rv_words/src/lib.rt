@@ -18,6 +18,7 @@ pub mod options;
 mod program;
 mod reading;
 mod recorded;
+pub mod shell;
 mod verifying;
 mod versions;
 mod words;

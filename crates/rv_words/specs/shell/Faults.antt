@@ -1,0 +1,61 @@
+-- What is wrong with the words of a shell's command.
+use Rattle.std.specs.Prelude.{codes, List, ℕ, None, Some, [], ◌∷◌, ◌≡◌}
+use Rattle.clap.specs.Words.{IsAmong, Row, Text, fault_of, first_of, kind_of, matches_of}
+use Rattle.clap.specs.declared.error.Error.{Error}
+use Rattle.clap.specs.declared.error.kind.ErrorKind.{ErrorKind}
+use Rattle.clap.specs.declared.error.kind.ErrorKind.TheVariants.{DisplayHelp, OutOfMemory}
+use Rattle.rv_json.specs.Limits.{FitsItem}
+use Rattle.rv_lines.specs.Number.{WritesBetween}
+use Rattle.rv_words.specs.Durations.{WritesDuration}
+use Rattle.rv_words.specs.shell.Calls.{row_of}
+use Rattle.rv_words.specs.shell.Words.{shell_app, shell_word}
+use Rattle.rv_words.specs.declared.shell.fault.ShellFault.{ShellFault}
+use Rattle.rv_words.specs.declared.shell.fault.ShellFault.TheVariants.{Missing, NoMemory, Outside, Refused, TwoForms}
+use Rattle.rv_words.specs.declared.shell.value.ShellValue.{ShellValue}
+use Rattle.rv_words.specs.declared.shell.value.ShellValue.TheVariants as value
+use Rattle.rv_words.specs.declared.shell.word.ShellWord.{ShellWord}
+
+-- a text is no such value
+abbrev pub IsNoValue : ShellValue → Text → Type 0
+IsNoValue value.Place text = (n : ℕ) → ¬ WritesBetween 0 63 text n
+IsNoValue value.Item text = ¬ FitsItem text
+IsNoValue value.Wait text = (n : ℕ) → ¬ WritesDuration text n
+IsNoValue value.Max text = (n : ℕ) → ¬ WritesBetween 1 16 text n
+
+-- a fault of words that `clap` accepts, by their rows
+abbrev pub IsFaultIn : List Row → ShellFault → Type 0
+IsFaultIn rows (Refused error) = ⊥
+IsFaultIn rows (Outside value given) = (row_of value rows ≡ Some given.now) × IsNoValue value given.now
+IsFaultIn rows (Missing value) = row_of value rows ≡ None
+IsFaultIn rows TwoForms = (first_of (codes "null") rows ≡ Some (codes "true"))
+    × (first_of (codes "json") rows ≡ Some (codes "true"))
+IsFaultIn rows NoMemory = Unit {0}
+
+-- a fault of the words from a command on: one that `clap` finds, a call for help included, or one of their rows
+abbrev pub IsFaultOf : ShellWord → List Text → ShellFault → Type 0
+IsFaultOf word own (Refused error) = IsAmong (kind_of error) (fault_of (shell_app word) own)
+IsFaultOf word own NoMemory = Unit {0}
+IsFaultOf word own fault =
+    (fault_of (shell_app word) own ≡ []) × IsFaultIn (matches_of (shell_app word) own) fault
+
+-- after the program's name comes a command, and the words from there on have this fault
+pub record HasFault (words : List Text) (fault : ShellFault) : Type 0 where
+  pub name : Text
+  pub word : ShellWord
+  pub rest : List Text
+  pub words_are : words ≡ name ∷ shell_word word ∷ rest
+  pub fault_is : IsFaultOf word (shell_word word ∷ rest) fault
+
+-- the status of a program that ends with a fault
+abbrev pub status_of_kind : ErrorKind → ℕ
+status_of_kind DisplayHelp = 0
+status_of_kind _ = 2
+
+abbrev pub status_of : ShellFault → ℕ
+status_of (Refused error) = status_of_kind (kind_of error)
+status_of fault = 2
+
+-- the fault as which an error of this kind from `clap` is reported
+abbrev pub fault_by : ErrorKind → Error → ShellFault
+fault_by OutOfMemory error = NoMemory
+fault_by other error = Refused error

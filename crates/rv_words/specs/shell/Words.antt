@@ -1,0 +1,60 @@
+-- The commands of a shell, as `clap` reads them.
+use Rattle.std.specs.Prelude.{codes, List, Some, true, [], ◌∷◌, ◌++◌}
+use Rattle.clap.specs.Words.{App, Rule, Text, new_app, new_rule}
+use Rattle.clap.specs.declared.builder.ArgAction.TheVariants.{Set, SetTrue}
+use Rattle.rv_words.specs.Listed.{with_rules}
+use Rattle.rv_words.specs.declared.shell.value.ShellValue.{ShellValue}
+use Rattle.rv_words.specs.declared.shell.value.ShellValue.TheVariants as value
+use Rattle.rv_words.specs.declared.shell.word.ShellWord.{ShellWord}
+use Rattle.rv_words.specs.declared.shell.word.ShellWord.TheVariants.{Count, Drain, Peek, Put, Swap, Take, Transfer}
+
+-- the word of a command
+abbrev pub shell_word : ShellWord → Text
+shell_word Put = codes "put"
+shell_word Take = codes "take"
+shell_word Transfer = codes "transfer"
+shell_word Drain = codes "drain"
+shell_word Count = codes "count"
+shell_word Peek = codes "peek"
+shell_word Swap = codes "swap"
+
+-- the name of a value
+abbrev pub value_word : ShellValue → Text
+value_word value.Place = codes "QUEUE"
+value_word value.Item = codes "ITEM"
+value_word value.Wait = codes "wait"
+value_word value.Max = codes "max"
+
+-- a value with no option before it, which has to be given
+abbrev pub place_rule : ShellValue → Rule
+place_rule value = record (new_rule (value_word value)) { action = Some Set; required = true }
+
+-- `--NAME VALUE`, which may be left out
+abbrev pub option_rule : Text → Rule
+option_rule name = record (new_rule name) { long = Some name; action = Some Set; value_names = 1 }
+
+-- `--NAME`, which has no value
+abbrev pub flag_rule : Text → Rule
+flag_rule name = record (new_rule name) { long = Some name; action = Some SetTrue }
+
+-- the options of every command
+abbrev pub common_rules : List Rule
+common_rules = option_rule (codes "connect") ∷ flag_rule (codes "null") ∷ flag_rule (codes "json") ∷ []
+
+abbrev pub max_rule : Rule
+max_rule = record (option_rule (codes "max")) { required = true }
+
+-- the rules of a command
+abbrev pub shell_rules : ShellWord → List Rule
+shell_rules Put = place_rule value.Place ∷ place_rule value.Item ∷ common_rules
+shell_rules Take = place_rule value.Place ∷ option_rule (codes "wait") ∷ common_rules
+shell_rules Transfer =
+    place_rule value.Place ∷ place_rule value.Item ∷ option_rule (codes "wait") ∷ common_rules
+shell_rules Drain = place_rule value.Place ∷ max_rule ∷ common_rules
+shell_rules Count = place_rule value.Place ∷ common_rules
+shell_rules Peek = place_rule value.Place ∷ common_rules
+shell_rules Swap =
+    place_rule value.Place ∷ place_rule value.Item ∷ option_rule (codes "wait") ∷ common_rules
+
+abbrev pub shell_app : ShellWord → App
+shell_app word = with_rules (new_app (shell_word word)) (shell_rules word)

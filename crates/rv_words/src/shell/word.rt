@@ -1,0 +1,304 @@
+//! The commands of a shell, as `clap` reads them.
+ghost use Rattle.std.specs.Prelude.{◌≡◌, IfSome, None};
+ghost use Rattle.rv_words.specs.Listed.{listed_app};
+ghost use Rattle.rv_words.specs.shell.Words.{shell_app, shell_word};
+
+use crate::listed::{FLAG, ListedCommand, ListedOption, NEEDED, OPTIONAL};
+
+/// A command of a shell.
+#[derive(Clone, Copy)]
+pub enum ShellWord {
+    /// `rv put QUEUE ITEM`.
+    Put,
+    /// `rv take QUEUE`.
+    Take,
+    /// `rv transfer QUEUE ITEM`.
+    Transfer,
+    /// `rv drain QUEUE --max N`.
+    Drain,
+    /// `rv count QUEUE`.
+    Count,
+    /// `rv peek QUEUE`.
+    Peek,
+    /// `rv swap QUEUE ITEM`, whose queue is an exchanger.
+    Swap,
+}
+
+impl ShellWord {
+    /// The command of this word.
+    pub(crate) fn of_text(text: &str) -> Option<ShellWord>
+        ensures some { IfSome result (λ word. text.now ≡ shell_word word) }
+        ensures none { result ≡ None → (word : ShellWord) → ¬ (text.now ≡ shell_word word) }
+    {
+        match text {
+            "put" => Some(ShellWord::Put),
+            "take" => Some(ShellWord::Take),
+            "transfer" => Some(ShellWord::Transfer),
+            "drain" => Some(ShellWord::Drain),
+            "count" => Some(ShellWord::Count),
+            "peek" => Some(ShellWord::Peek),
+            "swap" => Some(ShellWord::Swap),
+            _ => None,
+        }
+    }
+
+    /// How it is listed.
+    pub(crate) fn listed(self) -> &'static ListedCommand
+        ensures { listed_app result.now ≡ shell_app self }
+    {
+        match self {
+            ShellWord::Put => &PUT,
+            ShellWord::Take => &TAKE,
+            ShellWord::Transfer => &TRANSFER,
+            ShellWord::Drain => &DRAIN,
+            ShellWord::Count => &COUNT,
+            ShellWord::Peek => &PEEK,
+            ShellWord::Swap => &SWAP,
+        }
+    }
+}
+
+const PUT: ListedCommand = ListedCommand {
+    name: "put",
+    about: "Put an item into a queue",
+    options: &[
+        ListedOption {
+            name: "QUEUE",
+            positional: true,
+            help: "Its number, 0 to 63",
+            ..NEEDED
+        },
+        ListedOption {
+            name: "ITEM",
+            positional: true,
+            help: "The text that is handed over, at most 512 bytes",
+            ..NEEDED
+        },
+        ListedOption {
+            name: "connect",
+            values: &["ADDR"],
+            help: "The server [default: RV_SERVER, or else 127.0.0.1:7411]",
+            ..OPTIONAL
+        },
+        ListedOption {
+            name: "null",
+            help: "End what is printed with a zero byte in place of LF",
+            ..FLAG
+        },
+        ListedOption {
+            name: "json",
+            help: "Print the body of the reply",
+            ..FLAG
+        },
+    ],
+};
+
+const TAKE: ListedCommand = ListedCommand {
+    name: "take",
+    about: "Take the oldest item of a queue, and print it",
+    options: &[
+        ListedOption {
+            name: "QUEUE",
+            positional: true,
+            help: "Its number, 0 to 63",
+            ..NEEDED
+        },
+        ListedOption {
+            name: "wait",
+            values: &["TIME"],
+            help: "How long, as 500ms, 10s or 2m, 0s not at all [default: until it is met]",
+            ..OPTIONAL
+        },
+        ListedOption {
+            name: "connect",
+            values: &["ADDR"],
+            help: "The server [default: RV_SERVER, or else 127.0.0.1:7411]",
+            ..OPTIONAL
+        },
+        ListedOption {
+            name: "null",
+            help: "End what is printed with a zero byte in place of LF",
+            ..FLAG
+        },
+        ListedOption {
+            name: "json",
+            help: "Print the body of the reply",
+            ..FLAG
+        },
+    ],
+};
+
+const TRANSFER: ListedCommand = ListedCommand {
+    name: "transfer",
+    about: "Hand an item over to a consumer, and print who took it",
+    options: &[
+        ListedOption {
+            name: "QUEUE",
+            positional: true,
+            help: "Its number, 0 to 63",
+            ..NEEDED
+        },
+        ListedOption {
+            name: "ITEM",
+            positional: true,
+            help: "The text that is handed over, at most 512 bytes",
+            ..NEEDED
+        },
+        ListedOption {
+            name: "wait",
+            values: &["TIME"],
+            help: "How long, as 500ms, 10s or 2m, 0s not at all [default: until it is met]",
+            ..OPTIONAL
+        },
+        ListedOption {
+            name: "connect",
+            values: &["ADDR"],
+            help: "The server [default: RV_SERVER, or else 127.0.0.1:7411]",
+            ..OPTIONAL
+        },
+        ListedOption {
+            name: "null",
+            help: "End what is printed with a zero byte in place of LF",
+            ..FLAG
+        },
+        ListedOption {
+            name: "json",
+            help: "Print the body of the reply",
+            ..FLAG
+        },
+    ],
+};
+
+const DRAIN: ListedCommand = ListedCommand {
+    name: "drain",
+    about: "Take the oldest items of a queue in one step, and print them",
+    options: &[
+        ListedOption {
+            name: "QUEUE",
+            positional: true,
+            help: "Its number, 0 to 63",
+            ..NEEDED
+        },
+        ListedOption {
+            name: "max",
+            values: &["N"],
+            help: "How many at most, 1 to 16",
+            ..NEEDED
+        },
+        ListedOption {
+            name: "connect",
+            values: &["ADDR"],
+            help: "The server [default: RV_SERVER, or else 127.0.0.1:7411]",
+            ..OPTIONAL
+        },
+        ListedOption {
+            name: "null",
+            help: "End what is printed with a zero byte in place of LF",
+            ..FLAG
+        },
+        ListedOption {
+            name: "json",
+            help: "Print the body of the reply",
+            ..FLAG
+        },
+    ],
+};
+
+const COUNT: ListedCommand = ListedCommand {
+    name: "count",
+    about: "Count the items and the consumers that wait at a queue",
+    options: &[
+        ListedOption {
+            name: "QUEUE",
+            positional: true,
+            help: "Its number, 0 to 63",
+            ..NEEDED
+        },
+        ListedOption {
+            name: "connect",
+            values: &["ADDR"],
+            help: "The server [default: RV_SERVER, or else 127.0.0.1:7411]",
+            ..OPTIONAL
+        },
+        ListedOption {
+            name: "null",
+            help: "End what is printed with a zero byte in place of LF",
+            ..FLAG
+        },
+        ListedOption {
+            name: "json",
+            help: "Print the body of the reply",
+            ..FLAG
+        },
+    ],
+};
+
+const PEEK: ListedCommand = ListedCommand {
+    name: "peek",
+    about: "Print the oldest item of a queue, which stays",
+    options: &[
+        ListedOption {
+            name: "QUEUE",
+            positional: true,
+            help: "Its number, 0 to 63",
+            ..NEEDED
+        },
+        ListedOption {
+            name: "connect",
+            values: &["ADDR"],
+            help: "The server [default: RV_SERVER, or else 127.0.0.1:7411]",
+            ..OPTIONAL
+        },
+        ListedOption {
+            name: "null",
+            help: "End what is printed with a zero byte in place of LF",
+            ..FLAG
+        },
+        ListedOption {
+            name: "json",
+            help: "Print the body of the reply",
+            ..FLAG
+        },
+    ],
+};
+
+const SWAP: ListedCommand = ListedCommand {
+    name: "swap",
+    about: "Swap an item at an exchanger, and print the other one",
+    options: &[
+        ListedOption {
+            name: "QUEUE",
+            positional: true,
+            help: "Its number, 0 to 63",
+            ..NEEDED
+        },
+        ListedOption {
+            name: "ITEM",
+            positional: true,
+            help: "The text that is handed over, at most 512 bytes",
+            ..NEEDED
+        },
+        ListedOption {
+            name: "wait",
+            values: &["TIME"],
+            help: "How long, as 500ms, 10s or 2m, 0s not at all [default: until it is met]",
+            ..OPTIONAL
+        },
+        ListedOption {
+            name: "connect",
+            values: &["ADDR"],
+            help: "The server [default: RV_SERVER, or else 127.0.0.1:7411]",
+            ..OPTIONAL
+        },
+        ListedOption {
+            name: "null",
+            help: "End what is printed with a zero byte in place of LF",
+            ..FLAG
+        },
+        ListedOption {
+            name: "json",
+            help: "Print the body of the reply",
+            ..FLAG
+        },
+    ],
+};
