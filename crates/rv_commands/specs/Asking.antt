@@ -1,5 +1,5 @@
 -- One call over a link: its hello, its request, and what each end of it tells.
-use Rattle.std.specs.Prelude.{List, ℕ, ◌≡◌, Option, Result, None, Some, Ok, Err}
+use Rattle.std.specs.Prelude.{IfSome, List, ℕ, ◌≡◌, Option, Result, None, Some, Ok, Err}
 use Rattle.rv_text.specs.declared.answer.Answer.{Answer}
 use Rattle.rv_text.specs.declared.answer.Answer.TheVariants as answers
 use Rattle.rv_text.specs.declared.answer.Refusal.{Refusal}
@@ -65,18 +65,29 @@ module _ {R W : Type 0} (remaining : R → Option (List ℕ)) (contents : W → 
   EndsAsking asking before after end =
       (answer : Answer) × AsksFor asking before after (Ok answer) × TellsOf asking answer end
 
-  -- once the client was welcome, its first request in that epoch ended so
-  pub record EndsRequest (starting : Starting) (call : Call) (before after : Link R W) (end : CallEnd)
-      : Type 0 where
+  -- once the client was welcome, its first request in that epoch, which is the earlier one if there was one,
+  -- ended so
+  pub record EndsRequest (starting : Starting) (call : Call) (earlier : Option Key) (before after : Link R W)
+      (end : CallEnd) : Type 0 where
     pub epoch : ℕ
     pub between : Link R W
     pub welcomed : IsWelcomed starting before between (Some (first_key starting epoch))
+    pub same : IfSome earlier (λ key. key ≡ first_key starting epoch)
     pub ended : EndsAsking (record { key = first_key starting epoch; call = call }) between after end
 
+  -- the client was welcome in this epoch, in which its first request isn't the earlier one, and asked nothing
+  pub record HasMoved (starting : Starting) (earlier : Option Key) (key : Key) (epoch : ℕ)
+      (before after : Link R W) : Type 0 where
+    pub welcomed : IsWelcomed starting before after (Some (first_key starting epoch))
+    pub was : earlier ≡ Some key
+    pub other : ¬ (key ≡ first_key starting epoch)
+
   -- the call ended at its hello, or at its request
-  abbrev pub EndsCall : Starting → Call → Link R W → Link R W → CallEnd → Type 0
-  EndsCall starting call before after (ends.Unwelcome refusal) =
+  abbrev pub EndsCall : Starting → Call → Option Key → Link R W → Link R W → CallEnd → Type 0
+  EndsCall starting call earlier before after (ends.Unwelcome refusal) =
       EndsHello starting before after (ends.Unwelcome refusal)
-  EndsCall starting call before after (ends.Unheard fault) =
+  EndsCall starting call earlier before after (ends.Unheard fault) =
       EndsHello starting before after (ends.Unheard fault)
-  EndsCall starting call before after end = EndsRequest starting call before after end
+  EndsCall starting call earlier before after (ends.Moved key epoch) =
+      HasMoved starting earlier key epoch before after
+  EndsCall starting call earlier before after end = EndsRequest starting call earlier before after end

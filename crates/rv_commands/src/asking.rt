@@ -1,5 +1,5 @@
 //! One call over a link: a hello, and then its request.
-ghost use Rattle.std.specs.Prelude.{◌≡◌, IfErr, IfOk, Some};
+ghost use Rattle.std.specs.Prelude.{◌≡◌, IfErr, IfOk, IfSome, None, Some};
 ghost use Rattle.rv_text.specs.Limits.{FitsCall, FitsIdentifier, FitsKey};
 ghost use Rattle.rv_client.specs.Link.{Asks, link, message_frame};
 ghost use Rattle.rv_client.specs.Process.{first_key, request_of};
@@ -26,6 +26,8 @@ pub enum CallEnd {
     EpochEnded(Key, u64),
     /// The request of this key ended without a reply: its client has this later incarnation.
     Replaced(Key, u64),
+    /// The request of this key, which was asked before, wasn't asked again: the server is in this other epoch.
+    Moved(Key, u64),
     /// The hello was refused, for this reason, and nothing was asked.
     Unwelcome(Refusal),
     /// The client wasn't welcome, because of this fault of the link or, without one, of another answer.
@@ -35,26 +37,45 @@ pub enum CallEnd {
 
 /// Says hello once over a link and, if the client is welcome, asks the call once, under its first number.
 ///
-/// Each goes out as one frame, and one frame is read after it. After a fault of the link the same client may
-/// call this over another one: its hello and its request are then the same, so that the call is carried out
-/// once at most.
+/// Each goes out as one frame, and one frame is read after it. After a fault of the link the same client asks
+/// again over another one, with the key that its request had `earlier`: hello and request are then the same,
+/// and in another epoch, in which the call would be carried out once more, nothing is asked.
 pub fn ask_call<R: Read, W: Write>(
     alloc: Global,
     new: New,
     call: Call,
+    earlier: Option<Key>,
     from: &mut Source<R>,
     to: &mut Sink<W>,
 ) -> CallEnd
     requires client { FitsIdentifier new.client }
     requires incarnation { FitsIdentifier new.incarnation }
     requires call { FitsCall call }
-    ensures { EndsCall R.remaining W.contents new call
+    ensures { EndsCall R.remaining W.contents new call earlier
         (link from.old to.old) (link from.new to.new) result }
 {
-    match say_hello(alloc, new, from, to) {
-        Ok(idle) => ask_once(alloc, idle.begin(call), from, to),
-        Err(end) => end,
+    let idle = match say_hello(alloc, new, from, to) {
+        Ok(idle) => idle,
+        Err(end) => return end,
+    };
+    let outstanding = idle.begin(call);
+    let key = outstanding.key();
+    match moved_from(earlier, key) {
+        Some(before) => {
+            outstanding.abandon();
+            CallEnd::Moved(before, key.epoch)
+        }
+        None => ask_once(alloc, outstanding, from, to),
     }
+}
+
+// The earlier key, if there is one and it isn't this one.
+fn moved_from(earlier: Option<Key>, key: Key) -> Option<Key>
+    ensures some { IfSome result (λ before. (earlier ≡ Some before) × ¬ (before ≡ key)) }
+    ensures none { result ≡ None → IfSome earlier (λ before. before ≡ key) }
+{
+    let before = earlier?;
+    if before == key { None } else { Some(before) }
 }
 
 // Says hello once.

@@ -1,9 +1,10 @@
-//! One call of a shell's command over a link, what is printed of its reply, and the status that tells it.
+//! One call of a shell's command over a link, what is printed of its reply, its status, and the leases of client
+//! numbers.
 //!
 //! ```
 //! let new = New::start(client, incarnation, Version::Two);
 //! let take = Call::Take { queue: 3, wait: Wait::Millis(10_000) };
-//! if let CallEnd::Replied(key, reply) = ask_call(alloc, new, take, &mut source, &mut sink) {
+//! if let CallEnd::Replied(key, reply) = ask_call(alloc, new, take, None, &mut source, &mut sink) {
 //!     let status = status_of(&reply); // 0 for an item, 4 where the wait ended
 //!     let text = reply_text(alloc, Form::Lines, key, reply)?; // the item and LF, or nothing
 //! }
@@ -11,7 +12,11 @@
 #![tactic(auto)]
 
 mod asking;
+mod lease;
+mod pieces;
 mod reply;
 
 pub use asking::{CallEnd, ask_call};
+pub use lease::{lease_address, lease_at};
+pub use pieces::{MAX_PIECE, call_for, first_piece};
 pub use reply::{Form, reply_text, status_of};

@@ -88,12 +88,7 @@ fn key_text(alloc: Global, key: &Key) -> Result<String, NoMemory>
 }
 
 // How many items wait, and how many consumers.
-fn counts_text(
-    alloc: Global,
-    items: u64,
-    consumers: u64,
-    end: &str,
-) -> Result<String, NoMemory>
+fn counts_text(alloc: Global, items: u64, consumers: u64, end: &str) -> Result<String, NoMemory>
     ensures { IfOk result (λ text. string_bytes text ≡ ended_text (Reply.Counted items consumers) end.now) }
 {
     format!(in alloc; "{items} {consumers}{end}")

@@ -1,0 +1,65 @@
+//! The pieces in which a command waits, so that one that is killed leaves a request for a short time.
+ghost use Rattle.std.specs.Prelude.{◌≡◌, IfOk, IfSome};
+ghost use Rattle.rv_text.specs.Limits.{FitsCall, FitsWait};
+ghost use Rattle.rv_commands.specs.Pieces.{pieces_of, waiting};
+
+use rv_text::{Call, NoMemory, Wait};
+use std::alloc::Global;
+
+/// The most milliseconds of a piece.
+pub const MAX_PIECE: u64 = 10_000;
+
+/// The first piece of a wait, and the wait that is left after it, if there is one.
+pub fn first_piece(wait: Wait) -> (Wait, Option<Wait>)
+    requires { FitsWait wait }
+    ensures pieces { result ≡ pieces_of wait }
+    ensures piece { FitsWait result.0 }
+    ensures left { IfSome result.1 FitsWait }
+{
+    match wait {
+        Wait::Millis(millis) if millis > MAX_PIECE => (
+            Wait::Millis(MAX_PIECE),
+            Some(Wait::Millis(millis - MAX_PIECE)),
+        ),
+        Wait::Forever => (Wait::Millis(MAX_PIECE), Some(Wait::Forever)),
+        _ => (wait, None),
+    }
+}
+
+/// A copy of the call, which waits so long if it waits at all. Fails only if memory was refused.
+pub fn call_for(alloc: Global, call: &Call, wait: Wait) -> Result<Call, NoMemory>
+    requires call { FitsCall call.now }
+    requires wait { FitsWait wait }
+    ensures same { IfOk result (λ copy. copy ≡ waiting call.now wait) }
+    ensures fits { IfOk result FitsCall }
+{
+    let copy = call.copy(alloc)?;
+    match wait {
+        Wait::Now => Ok(copy),
+        _ => Ok(with_wait(copy, wait)),
+    }
+}
+
+// The call with this wait.
+fn with_wait(call: Call, wait: Wait) -> Call
+    requires call { FitsCall call }
+    requires wait { FitsWait wait }
+    requires waits { ¬ (wait ≡ Wait.Now) }
+    ensures same { result ≡ waiting call wait }
+    ensures fits { FitsCall result }
+{
+    match call {
+        Call::Transfer { queue, item, .. } => Call::Transfer { queue, item, wait },
+        Call::Take { queue, .. } => Call::Take { queue, wait },
+        Call::Swap {
+            exchanger,
+            item,
+            ..
+        } => Call::Swap {
+            exchanger,
+            item,
+            wait,
+        },
+        other => other,
+    }
+}
