@@ -17,8 +17,10 @@ mod fault;
 mod growing;
 mod journal;
 pub mod laws;
+mod lease;
 mod opened;
 mod server;
+mod shell;
 mod verify;
 mod watch;
 
@@ -38,6 +40,7 @@ pub use rv_words::command::{Command, CommandFault, read_command};
 use rv_words::{HelpAnswer, asks_version, read_help, version_text, words_of_host};
 pub use rv_words::{read_record, read_verify};
 use server::{ServerPlan, serve_epoch};
+use shell::run_shell;
 use std::alloc::Global;
 use std::fmt::Display;
 use std::fs::OpenOptions;
@@ -85,6 +88,9 @@ fn run_words<T: Threads + Wait + AllocGlobal + time::Clock + Sync>(
         return tell_version(rt);
     }
     if let Some(code) = run_help(rt, words)? {
+        return Ok(code);
+    }
+    if let Some(code) = run_shell(rt, words) {
         return Ok(code);
     }
     if let Some((file, call)) = read_record(rt.alloc(), words)? {

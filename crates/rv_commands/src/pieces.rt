@@ -1,6 +1,5 @@
 //! The pieces in which a command waits, so that one that is killed leaves a request for a short time.
-ghost use Rattle.std.specs.Prelude.{◌≡◌, IfOk, IfSome};
-ghost use Rattle.rv_text.specs.Limits.{FitsCall, FitsWait};
+ghost use Rattle.std.specs.Prelude.{◌≡◌, IfOk};
 ghost use Rattle.rv_commands.specs.Pieces.{pieces_of, waiting};
 
 use rv_text::{Call, NoMemory, Wait};
@@ -11,10 +10,7 @@ pub const MAX_PIECE: u64 = 10_000;
 
 /// The first piece of a wait, and the wait that is left after it, if there is one.
 pub fn first_piece(wait: Wait) -> (Wait, Option<Wait>)
-    requires { FitsWait wait }
-    ensures pieces { result ≡ pieces_of wait }
-    ensures piece { FitsWait result.0 }
-    ensures left { IfSome result.1 FitsWait }
+    ensures { result ≡ pieces_of wait }
 {
     match wait {
         Wait::Millis(millis) if millis > MAX_PIECE => (
@@ -28,10 +24,7 @@ pub fn first_piece(wait: Wait) -> (Wait, Option<Wait>)
 
 /// A copy of the call, which waits so long if it waits at all. Fails only if memory was refused.
 pub fn call_for(alloc: Global, call: &Call, wait: Wait) -> Result<Call, NoMemory>
-    requires call { FitsCall call.now }
-    requires wait { FitsWait wait }
-    ensures same { IfOk result (λ copy. copy ≡ waiting call.now wait) }
-    ensures fits { IfOk result FitsCall }
+    ensures { IfOk result (λ copy. copy ≡ waiting call.now wait) }
 {
     let copy = call.copy(alloc)?;
     match wait {
@@ -42,11 +35,8 @@ pub fn call_for(alloc: Global, call: &Call, wait: Wait) -> Result<Call, NoMemory
 
 // The call with this wait.
 fn with_wait(call: Call, wait: Wait) -> Call
-    requires call { FitsCall call }
-    requires wait { FitsWait wait }
-    requires waits { ¬ (wait ≡ Wait.Now) }
-    ensures same { result ≡ waiting call wait }
-    ensures fits { FitsCall result }
+    requires { ¬ (wait ≡ Wait.Now) }
+    ensures { result ≡ waiting call wait }
 {
     match call {
         Call::Transfer { queue, item, .. } => Call::Transfer { queue, item, wait },

@@ -1,5 +1,5 @@
 -- The words of `rv help`.
-use Rattle.std.specs.Prelude.{codes, List, ℕ, [], ◌∷◌}
+use Rattle.std.specs.Prelude.{codes, List, map, ℕ, [], ◌∷◌}
 use Rattle.clap.specs.Words.{App, IsAmong, Text, fault_of, kind_of, with_subcommand}
 use Rattle.clap.specs.declared.error.kind.ErrorKind.{ErrorKind}
 use Rattle.clap.specs.declared.error.kind.ErrorKind.TheVariants.{DisplayHelp}
@@ -7,14 +7,22 @@ use Rattle.rv_words.specs.options.Words.{host_app}
 use Rattle.rv_words.specs.Listed.{with_apps}
 use Rattle.rv_words.specs.Program.{command_app, rv_app}
 use Rattle.rv_words.specs.Verifying.{verify_app}
+use Rattle.rv_words.specs.shell.Words.{shell_app}
 use Rattle.rv_words.specs.declared.helping.HelpAnswer.{HelpAnswer}
+use Rattle.rv_words.specs.declared.shell.word.ShellWord.TheVariants.{Count, Drain, Peek, Put, Swap, Take, Transfer}
 
--- the program with all its commands, `record --to FILE`, as help shows it, `version`, `verify` and `host` too
+-- the commands that read their words themselves, but for `host`: `record --to FILE`, as help shows it, `version`,
+-- `verify`, and those of a shell
+abbrev pub other_apps : List App
+other_apps =
+    command_app (codes "record") (codes "to" ∷ [])
+    ∷ command_app (codes "version") []
+    ∷ verify_app
+    ∷ map shell_app (Put ∷ Take ∷ Transfer ∷ Drain ∷ Count ∷ Peek ∷ Swap ∷ [])
+
+-- the program with all its commands
 abbrev pub help_app : App
-help_app =
-    let others = with_apps rv_app
-    (command_app (codes "record") (codes "to" ∷ []) ∷ command_app (codes "version") [] ∷ verify_app ∷ []) in
-    with_subcommand others host_app.top
+help_app = with_subcommand (with_apps rv_app other_apps) host_app.top
 
 -- the answer is of a kind that clap finds for the words
 abbrev pub IsHelpFor : List Text → HelpAnswer → Type 0

@@ -9,6 +9,7 @@ use crate::fault::CommandFault;
 use crate::listed::{ListedCommand, ListedOption, NEEDED, with_commands};
 use crate::options::host_words;
 use crate::program::program;
+use crate::shell::{COUNT, DRAIN, PEEK, PUT, SWAP, TAKE, TRANSFER};
 use crate::verifying::VERIFY;
 use crate::words::words_from;
 use clap::error::ErrorKind;
@@ -108,4 +109,11 @@ const OTHERS: &[ListedCommand] = &[
         options: &[],
     },
     VERIFY,
+    PUT,
+    TAKE,
+    TRANSFER,
+    DRAIN,
+    COUNT,
+    PEEK,
+    SWAP,
 ];

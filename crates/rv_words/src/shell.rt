@@ -27,6 +27,7 @@ use rv_text::{Call, Item, Wait};
 use std::alloc::Global;
 pub use value::ShellValue;
 pub use word::ShellWord;
+pub(crate) use word::{COUNT, DRAIN, PEEK, PUT, SWAP, TAKE, TRANSFER};
 
 /// What the words of a shell's command say.
 #[derive(Drop)]

@@ -58,7 +58,7 @@ impl ShellWord {
     }
 }
 
-const PUT: ListedCommand = ListedCommand {
+pub(crate) const PUT: ListedCommand = ListedCommand {
     name: "put",
     about: "Put an item into a queue",
     options: &[
@@ -93,7 +93,7 @@ const PUT: ListedCommand = ListedCommand {
     ],
 };
 
-const TAKE: ListedCommand = ListedCommand {
+pub(crate) const TAKE: ListedCommand = ListedCommand {
     name: "take",
     about: "Take the oldest item of a queue, and print it",
     options: &[
@@ -128,7 +128,7 @@ const TAKE: ListedCommand = ListedCommand {
     ],
 };
 
-const TRANSFER: ListedCommand = ListedCommand {
+pub(crate) const TRANSFER: ListedCommand = ListedCommand {
     name: "transfer",
     about: "Hand an item over to a consumer, and print who took it",
     options: &[
@@ -169,7 +169,7 @@ const TRANSFER: ListedCommand = ListedCommand {
     ],
 };
 
-const DRAIN: ListedCommand = ListedCommand {
+pub(crate) const DRAIN: ListedCommand = ListedCommand {
     name: "drain",
     about: "Take the oldest items of a queue in one step, and print them",
     options: &[
@@ -204,7 +204,7 @@ const DRAIN: ListedCommand = ListedCommand {
     ],
 };
 
-const COUNT: ListedCommand = ListedCommand {
+pub(crate) const COUNT: ListedCommand = ListedCommand {
     name: "count",
     about: "Count the items and the consumers that wait at a queue",
     options: &[
@@ -233,7 +233,7 @@ const COUNT: ListedCommand = ListedCommand {
     ],
 };
 
-const PEEK: ListedCommand = ListedCommand {
+pub(crate) const PEEK: ListedCommand = ListedCommand {
     name: "peek",
     about: "Print the oldest item of a queue, which stays",
     options: &[
@@ -262,7 +262,7 @@ const PEEK: ListedCommand = ListedCommand {
     ],
 };
 
-const SWAP: ListedCommand = ListedCommand {
+pub(crate) const SWAP: ListedCommand = ListedCommand {
     name: "swap",
     about: "Swap an item at an exchanger, and print the other one",
     options: &[

@@ -1,21 +1,19 @@
 -- The commands that are added are those of the program with all its commands.
-use Rattle.std.proofs.Common.{◌≡◌, ◌∙◌, [], ◌∷◌, ap, codes}
+use Rattle.std.proofs.Common.{◌≡◌, ◌∙◌, ap}
 use Rattle.std.proofs.lemmas.Result.{IfOk-weaker}
 use Rattle.clap.specs.Simple.{app_of_fields}
 use Rattle.clap.specs.Words.{App, app_of, with_subcommand}
 use Rattle.rv_words.specs.options.Words.{host_app}
 use Rattle.rv_words.specs.Listed.{with_apps}
-use Rattle.rv_words.specs.Program.{command_app, rv_app}
-use Rattle.rv_words.specs.Verifying.{verify_app}
+use Rattle.rv_words.specs.Helping.{other_apps}
+use Rattle.rv_words.specs.Program.{rv_app}
 use Rattle.rv_words.proofs.helping.whole_program.Goals as goal
 
 pub returns : goal.returns
 returns c =
     let named : app_of c.in_ok-program-2.program ≡ rv_app =
     ap app_of_fields c.in_ok-program-2.ensures.0 ∙ c.in_ok-program.ensures in
-    let others = c.in_ok-program-3.ensures ∙ ap (λ (a : App). with_apps a
-    (command_app (codes "record") (codes "to" ∷ []) ∷ command_app (codes "version") [] ∷ verify_app ∷ []))
-    named in
+    let others = c.in_ok-program-3.ensures ∙ ap (λ (a : App). with_apps a other_apps) named in
     IfOk-weaker c.subcommand.result _ _ (λ whole adds. adds.shape c.in_ok-host.ensures.local
     ∙ ap (λ (a : App). with_subcommand (app_of c.in_ok-program-3.program) a.top) c.in_ok-host.ensures.app
     ∙ ap (λ (a : App). with_subcommand a host_app.top) others) c.subcommand.ensures

@@ -1,0 +1,44 @@
+//! A client number that no other program of this user has on this host, while its socket is bound.
+use rv_commands::{lease_address, lease_at};
+use std::io::ErrorKind;
+use std::net::{Ipv4Addr, SocketAddrV4, UdpSocket};
+
+// The numbers from which one is leased.
+const FIRST: u64 = 1;
+
+const LAST: u64 = 1_024;
+
+/// A lease: it ends with the process, however that ends.
+#[derive(Drop)]
+pub(crate) struct Lease {
+    /// The client number.
+    pub(crate) client: u64,
+    _socket: UdpSocket,
+}
+
+/// Leases the least number that is free, if one is.
+pub(crate) fn take_lease(rt: &HostRuntime) -> Option<Lease> {
+    let user = libc::geteuid();
+    for client in FIRST..=LAST {
+        if let Some(socket) = bound(rt, lease_address(user, client), lease_at(client)) {
+            return Some(Lease {
+                client,
+                _socket: socket,
+            });
+        }
+    }
+    None
+}
+
+// A socket at this place, or at the same port of the loopback address where the system has no such address.
+fn bound(rt: &HostRuntime, address: [u8; 4], port: u16) -> Option<UdpSocket> {
+    let place = SocketAddrV4::new(Ipv4Addr::from(address), port);
+    match UdpSocket::bind(rt, place) {
+        Ok(socket) => Some(socket),
+        Err(error) if error.kind() == ErrorKind::AddrNotAvailable => {
+            let local = SocketAddrV4::new(Ipv4Addr::from([127, 0, 0, 1]), port);
+            UdpSocket::bind(rt, local).ok()
+        }
+        Err(_) => None,
+    }
+}
