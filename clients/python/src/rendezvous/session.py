@@ -403,11 +403,11 @@ class Session:
 
 
 class Items(Iterator[str]):
-    """The items of a queue, one take behind another, until a cancel."""
+    """The items of a queue, one take behind another, until a cancel, or until one take of this wait gave none."""
 
-    def __init__(self, session: Session, queue: int) -> None:
+    def __init__(self, session: Session, queue: int, wait: Union[Wait, float] = Wait.FOREVER) -> None:
         self._session, self._queue = session, queue
-        self._call = made("take", queue, Wait.FOREVER)
+        self._call, self._own = made("take", queue, wait), None if isinstance(wait, Wait) else wait
         self._job: Optional[Job] = None
         self._stopped = False
 
@@ -421,22 +421,29 @@ class Items(Iterator[str]):
             except NotThere:
                 # a signal's handler, or another thread, claimed it meanwhile
                 kept = session._standing().first(self._queue)
-        job = self._job = session._job(self._call, None)
+        job = self._job = session._job(self._call, self._own)
         # who stops the loop sees the job, or is seen here
         if self._stopped:
             raise StopIteration
 
-        def item_met(outcome: Outcome) -> str:
+        def item_met(outcome: Outcome) -> Optional[str]:
             self._stopped = self._stopped or job.cancelled
-            return item_of(outcome)
+            return item_if_any(outcome)
         try:
-            return session._given(job, item_met)
+            return self._found(session._given(job, item_met))
         except errors.Cancelled:
             self._stopped = True
             raise StopIteration from None
         except errors.NotRecorded as fault:
             self._stopped = self._stopped or job.cancelled or isinstance(fault.outcome, Cancelled)
             raise
+
+    def _found(self, item: Optional[str]) -> str:
+        """The item that a take gave; the loop ends where it gave none."""
+        if item is None:
+            self._stopped = True
+            raise StopIteration
+        return item
 
     def stop(self) -> bool:
         """Ends this loop, from any thread and from a signal's handler: its take that waits, or else before the next one, and no

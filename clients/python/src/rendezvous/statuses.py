@@ -1,0 +1,29 @@
+"""Exit statuses: what a command came to, by one list for all commands of the shell."""
+from __future__ import annotations
+
+import enum
+
+from . import errors
+
+
+class Status(enum.IntEnum):
+    """What a command came to. The last one is that of `xargs` for a command that failed."""
+
+    DONE = 0
+    NO_SERVER = 1
+    BAD_WORDS = 2
+    EMPTY = 3
+    TIMED_OUT = 4
+    CANCELLED = 5
+    NOT_KNOWN = 6
+    REFUSED = 7
+    COMMAND_FAILED = 123
+
+
+def status_of(fault: Exception) -> Status:
+    """The status of what ends a call. Where nothing was asked, and where a record can't be written, no server is there for it."""
+    if isinstance(fault, (errors.Refused, errors.Full, errors.Replaced)):
+        return Status.REFUSED
+    if isinstance(fault, (errors.Unsettled, errors.EpochEnded)):
+        return Status.NOT_KNOWN
+    return Status.NO_SERVER
