@@ -11,7 +11,7 @@ from tests.cases import Case, Scenario, SideBySide, Tool
 from tests.clients import (
     browser, cancelled_tasks, crowds, drains, guide, installed, interrupted, interrupted_judged, java, java_closes, java_leases,
     java_packages, java_record, java_scenes, java_shards, long_waits, missing_tools, presence, python_page, python_tests, receipts,
-    records, restarts, shards, table_cases)
+    records, restarts, shards, table_cases, workers)
 
 # What is left out where its tool is missing.
 JAVA = Tool("the Java client", java.missing)
@@ -90,7 +90,7 @@ def load_tests(_: unittest.TestLoader, suite: unittest.TestSuite, __: str | None
     suite.addTests(scenario(case, program, seed, is_random=True) for case in by_seed)
     others: list[Callable[..., object]] = [
         *receipts.CASES, *restarts.CASES, *shards.CASES, *drains.CASES, *presence.CASES, *python_page.CASES, *guide.CASES,
-        *missing_tools.CASES]
+        *missing_tools.CASES, *workers.CASES]
     suite.addTests(scenario(case, program) for case in others)
     suite.addTests(scenario(case, program, tools=[BROWSER]) for case in browser.CASES)
     return suite

@@ -8,11 +8,11 @@ from tests.clients.wrong import (
 
 PACKAGE, TESTS = "clients/python/src/rendezvous", "clients/python/tests"
 (MACHINE, SESSION, BODIES, CALLS, REPLIES, LINK, DRIVER, ERRORS, COURSE, ENDINGS, LEASES, UNCLAIMED, AIO, STREAM, RECORD,
- BELL, MANNER, LOG, SPREAD, SHARDS, JOBS) = (
+ BELL, MANNER, LOG, SPREAD, SHARDS, JOBS, WORKER) = (
     f"{PACKAGE}/{name}.py" for name in (
         "machine", "session", "bodies", "calls", "replies", "link", "driver", "errors", "course", "endings", "leases",
         "unclaimed", "aio", "stream", "record", "bell", "manner", "log", "spread", "shards",
-        "jobs"))
+        "jobs", "worker"))
 # Where a link was lost, and what goes on to another number there.
 LOST = "            self._failed(why)\n            return None\n"
 SKIP = ("            key = self.machine.key\n            if key and %s:\n"
@@ -212,6 +212,17 @@ IN_PYTHON = [
     WrongClient("loses a cancel as a take begins", "test_items.Loops.test_a_cancel_at_each_line", [
         Edit(SESSION, "        if job is not None and not job.over:\n            job.cancelled",
              "        if False:\n            job.cancelled")]),
+    WrongClient("goes on where no item came in time", "test_worker.Waits", [
+        Edit(SESSION, "        if item is None:\n            self._stopped = True\n", "        if item is None:\n")]),
+    WrongClient("drops the item that came with a worker's signal", "test_worker.Signals.test_while_it_waits", [
+        Edit(WORKER, "if item is None else", "if item is None or self._stop else")]),
+    WrongClient("has a worker's command get the terminal's signal", "test_worker.Signals.test_while_a_command_runs", [
+        Edit(WORKER, "return subprocess.Popen(words, stdin=stdin, start_new_session=True)",
+             "return subprocess.Popen(words, stdin=stdin)")]),
+    WrongClient("ends a worker by a failure", "test_worker.Failures.test_it_goes_on", [
+        Edit(WORKER, "Status.COMMAND_FAILED if self._work.stops_on_failure else ends", "Status.COMMAND_FAILED")]),
+    WrongClient("tells an item that nobody asked for", "test_worker.Failures.test_it_goes_on", [
+        Edit(WORKER, ' if self._work.shows_items else ""', "")]),
     WrongClient("drops the item of a cancelled task", "test_aio.Cancels.test_the_next_take_gives_it", [
         Edit(AIO, "            self._shelf.keep(left.job)\n", "")]),
     WrongClient("gives an unclaimed item twice", "test_aio.Cancels.test_at_each_step_of_the_event_loop", [

@@ -3,7 +3,6 @@ import json
 import os
 import pathlib
 import signal
-import subprocess
 import sys
 import tempfile
 import unittest
@@ -14,8 +13,8 @@ from rendezvous import statuses, worker
 from rendezvous.calls import Wait
 from rendezvous.session import Items
 from scripted import HANG_UP, SILENCE, Scripted, key_members, refused, reply, running_first, waiting, welcome
+from working import Working
 
-SOURCES = str(pathlib.Path(rv.__file__).resolve().parent.parent)
 QUEUE = 3
 # A command that prints each of its arguments, one that says that it has begun, waits for a line in a pipe, and prints its item, and
 # one that says so and goes on for long.
@@ -29,35 +28,6 @@ FAILS = ["sh", "-c", 'test "$1" != bad', "sh"]
 def item(text):
     """A deed: this item."""
     return reply("item", item=text)
-
-
-class Working:
-    """A worker's process, from `with` on until its end: in a terminal it would have a group of its own. `words` stand before `--`."""
-
-    def __init__(self, server, command, *words, **environment):
-        clients = numbers()
-        kept = {name: value for name, value in os.environ.items() if not name.startswith("RV_")}
-        self.environment = {**kept, "PYTHONPATH": SOURCES, "RV_CLIENTS": f"{clients[0]}-{clients[-1]}",
-                            "RV_SERVER": server, **environment}
-        self.words = [sys.executable, "-B", "-W", "error", "-m", "rendezvous", "work", *words, "--", *command]
-
-    def __enter__(self):
-        self.process = subprocess.Popen(self.words, env=self.environment, stdout=subprocess.PIPE, stderr=subprocess.PIPE,
-                                        stdin=subprocess.DEVNULL, start_new_session=True)
-        return self
-
-    def __exit__(self, *_):
-        self.process.kill()
-        self.process.communicate()
-
-    def gets(self, number):
-        """It gets a signal, as from a terminal: each process of its group does."""
-        os.killpg(self.process.pid, number)
-
-    def ends(self):
-        """What it printed and said, and its status."""
-        printed, said = self.process.communicate(timeout=GENEROUS)
-        return printed.decode(), said.decode(), self.process.returncode
 
 
 class Workers(Case):
@@ -240,12 +210,14 @@ class Signals(Workers):
             with tempfile.TemporaryDirectory(prefix="rv-work-") as folder, Scripted(welcome, item("a")) as server:
                 pipe = os.path.join(folder, "pipe")
                 os.mkfifo(pipe)
+                held = os.open(pipe, os.O_RDWR)
+                self.addCleanup(os.close, held)
                 with Working(server.address, [*WAITS, pipe], str(QUEUE)) as works:
                     self.assertEqual(works.process.stdout.readline(), b"begun\n")
                     works.gets(number)
                     said = f"rendezvous work: {number.name}: stops after this command, or at once by a second signal\n"
                     self.assertEqual(works.process.stderr.readline().decode(), said)
-                    pathlib.Path(pipe).write_text("go on\n")
+                    os.write(held, b"go on\n")
                     self.assertEqual((works.ends(), len(server.heard)), (("did a\n", "", 0), 2))
 
     def test_a_second_one_while_a_command_runs(self):

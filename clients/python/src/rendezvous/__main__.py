@@ -16,10 +16,23 @@ from .worker import Work, worked
 PYTHON = "python3 -m "
 # How many milliseconds a unit of time has.
 UNITS = {"ms": 1, "s": 1_000, "m": 60_000, "h": 3_600_000}
-STATUSES = """\
-exit status: 0 stopped by SIGINT or SIGTERM; 1 no server; 2 bad words; 3 the queue is empty, with --wait 0s; 4 timed out, with --wait;
-5 cancelled by another program; 6 whether an item was taken is not known; 7 refused; 123 the command failed, with --stop-on-failure, or
-could not be started"""
+ENDS = """\
+SIGINT and SIGTERM end it after the item that is there, if one is; a second one
+ends it, and its command, at once. A failure is told on standard error, with
+the request that took the item: the "by" of its receipt. A receipt says that the
+item was handed over, not that the command ran: nobody else gets the item of a
+worker that dies.
+
+exit status:
+  0    ended by SIGINT or SIGTERM
+  1    no server, client number or record
+  2    bad words
+  3    the queue is empty, with --wait 0s
+  4    timed out, with --wait
+  5    cancelled by another program
+  6    whether an item was taken is not known
+  7    refused
+  123  the command failed, with --stop-on-failure, or could not be started"""
 
 
 class Parser(argparse.ArgumentParser):
@@ -34,9 +47,9 @@ def parser_of() -> Parser:
     made = Parser(prog=f"{PYTHON}rendezvous", description="Commands of the rendezvous server's clients.")
     commands = made.add_subparsers(title="commands", dest="command", metavar="COMMAND", required=True)
     work = commands.add_parser(
-        "work", help="run a command for each item of a queue", epilog=STATUSES, allow_abbrev=False,
+        "work", help="run a command for each item of a queue", epilog=ENDS, allow_abbrev=False,
         usage="%(prog)s [OPTION ...] QUEUE -- COMMAND [ARG ...]", formatter_class=argparse.RawDescriptionHelpFormatter,
-        description="Takes one item after another and runs COMMAND [ARG ...] ITEM for each, with empty standard input.")
+        description="Takes one item after another and runs COMMAND [ARG ...] ITEM for each, with\nempty standard input.")
     work.add_argument("queue", metavar="QUEUE", type=queue_in, help=f"0 to {GREATEST_PLACE}")
     work.add_argument("--connect", metavar="ADDRESS",
                       help="HOST:PORT or rv://..; else what RV_SERVER says, or else 127.0.0.1:7411")

@@ -403,7 +403,7 @@ class Session:
 
 
 class Items(Iterator[str]):
-    """The items of a queue, one take behind another, until a cancel, or until one take of this wait gave none."""
+    """The items of a queue, one take behind another, until a cancel, or until a take of this wait gives none."""
 
     def __init__(self, session: Session, queue: int, wait: Union[Wait, float] = Wait.FOREVER) -> None:
         self._session, self._queue = session, queue

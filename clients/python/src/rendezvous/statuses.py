@@ -7,7 +7,7 @@ from . import errors
 
 
 class Status(enum.IntEnum):
-    """What a command came to. The last one is that of `xargs` for a command that failed."""
+    """What a command came to. The last one is that of `xargs` where what it runs fails."""
 
     DONE = 0
     NO_SERVER = 1
@@ -21,7 +21,7 @@ class Status(enum.IntEnum):
 
 
 def status_of(fault: Exception) -> Status:
-    """The status of what ends a call. Where nothing was asked, and where a record can't be written, no server is there for it."""
+    """The status of what ends a call. That nothing was asked has one, for want of a server, a client number or a record."""
     if isinstance(fault, (errors.Refused, errors.Full, errors.Replaced)):
         return Status.REFUSED
     if isinstance(fault, (errors.Unsettled, errors.EpochEnded)):

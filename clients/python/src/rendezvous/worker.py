@@ -22,8 +22,8 @@ from .statuses import Status, status_of
 STOPS = (signal.SIGINT, signal.SIGTERM)
 # A take is asked anew after so many seconds: one whose worker was killed gets no item for longer than that.
 PRESENCE = 60.0
+# What is told where a take has no outcome, and of how to ask it for longer.
 NOT_KNOWN = "whether it took an item is not known"
-# What a worker can do that is told so.
 PATIENTLY = "a worker with patience=forever in its rv:// address goes on asking"
 
 
@@ -100,7 +100,7 @@ class Worker:
         try:
             item = next(self._items, None)
         except NotRecorded as fault:
-            tell(f"{of(fault.key)}: its reply is not in the record {fault.filename}: {fault.strerror}")
+            tell(f"{named(fault.key)}: its reply is not in the record {fault.filename}: {fault.strerror}")
             if isinstance(fault.outcome, Item):
                 self._work_at(fault.outcome.item)
             return Status.NO_SERVER
@@ -117,7 +117,7 @@ class Worker:
         wait = self._work.wait
         # a take whose time is over is cancelled where the server is silent
         if isinstance(self._session.last, Cancelled) and (isinstance(wait, Wait) or waited < wait):
-            tell(f"{of(self._session.last.key)}: cancelled by another program, and no item was taken")
+            tell(f"{named(self._session.last.key)}: cancelled by another program, and no item was taken")
             return Status.CANCELLED
         return Status.EMPTY if wait is Wait.NOW else Status.TIMED_OUT
 
@@ -134,7 +134,7 @@ class Worker:
             fault, ends = f"the command can't be started: {refused.strerror}", Status.COMMAND_FAILED
         if fault:
             shown = f": {json.dumps(item)}" if self._work.shows_items else ""
-            tell(f"item of {of(key)}: {fault}{shown}")
+            tell(f"item of {named(key)}: {fault}{shown}")
             ends = Status.COMMAND_FAILED if self._work.stops_on_failure else ends
         self._done, self._process = key, None
         return ends
@@ -179,18 +179,20 @@ class Worker:
         """Ends this process by a signal, which its command gets too, and tells what is known of the item."""
         key, process, unsettled = self._held, self._process, self._session.unsettled
         if key is None:
-            words = "no item was taken" if unsettled is None else f"{of(unsettled)}: {NOT_KNOWN}"
+            words = "no item was taken" if unsettled is None else f"{named(unsettled)}: {NOT_KNOWN}"
         elif process is None:
-            words = f"item of {of(key)}: its command was not started"
+            words = f"item of {named(key)}: its command was not started"
         elif process.returncode is None:
             with contextlib.suppress(OSError):
                 os.killpg(process.pid, number)
-            words = f"item of {of(key)}: its command got the signal too"
+            words = f"item of {named(key)}: its command got the signal too"
         else:
-            words = f"item of {of(key)}: {failure(process.returncode) or 'its command has ended'}"
+            words = f"item of {named(key)}: {failure(process.returncode) or 'its command has ended'}"
         tell(f"{name_of(number)}: ended at once: {words}")
         signal.signal(number, signal.SIG_DFL)
         os.kill(os.getpid(), number)
+        # the first process of a container doesn't end by that
+        os._exit(128 + number)
 
 
 def started(words: List[bytes], stdin: int) -> "subprocess.Popen[bytes]":
@@ -218,7 +220,7 @@ def ended_by(fault: RendezvousError) -> Status:
     return status_of(fault)
 
 
-def of(key: Optional[Key]) -> str:
+def named(key: Optional[Key]) -> str:
     """A request's name, as a receipt has it."""
     return f"request {'/'.join(map(str, key or ()))}"
 
