@@ -13,7 +13,7 @@ from rendezvous import statuses, worker
 from rendezvous.calls import Wait
 from rendezvous.session import Items
 from scripted import HANG_UP, SILENCE, Scripted, key_members, refused, reply, running_first, waiting, welcome
-from working import Working
+from working import IGNORED, Working
 
 QUEUE = 3
 # A command that prints each of its arguments, one that says that it has begun, waits for a line in a pipe, and prints its item, and
@@ -244,10 +244,9 @@ class Signals(Workers):
 
     def test_a_signal_that_is_ignored(self):
         """Stays so, as beside a shell that waits for nobody."""
-        ignores = ["sh", "-c", 'trap "" INT; exec "$@"', "sh"]
         with Scripted(welcome, SILENCE, reply("cancelled")) as server:
             works = self.waits(server)
-            works.words = [*ignores, *works.words]
+            works.starter = IGNORED
             with works:
                 until("a take", lambda: len(server.heard) == 2)
                 works.gets(signal.SIGINT)

@@ -6,6 +6,9 @@ import sys
 
 from context import GENEROUS, numbers, rv
 
+# What starts it with SIGINT as it is from a terminal, whatever these tests were started with, and with SIGINT ignored.
+BY_DEFAULT, IGNORED = ([sys.executable, "-B", "-c", "import os, signal, sys; signal.signal(signal.SIGINT, signal.%s); "
+                        "os.execv(sys.argv[1], sys.argv[1:])" % handler] for handler in ("SIG_DFL", "SIG_IGN"))
 SOURCES = str(pathlib.Path(rv.__file__).resolve().parent.parent)
 
 
@@ -18,11 +21,12 @@ class Working:
         kept = {name: value for name, value in os.environ.items() if not name.startswith("RV_")}
         self.environment = {**kept, "PYTHONPATH": SOURCES, "RV_CLIENTS": f"{clients[0]}-{clients[-1]}",
                             "RV_SERVER": server, **environment}
+        self.starter = BY_DEFAULT
         self.words = [sys.executable, "-B", "-W", "error", "-m", "rendezvous", "work", *words, "--", *command]
 
     def __enter__(self):
-        self.process = subprocess.Popen(self.words, env=self.environment, stdout=subprocess.PIPE, stderr=subprocess.PIPE,
-                                        stdin=subprocess.DEVNULL, start_new_session=True)
+        self.process = subprocess.Popen([*self.starter, *self.words], env=self.environment, stdin=subprocess.DEVNULL,
+                                        stdout=subprocess.PIPE, stderr=subprocess.PIPE, start_new_session=True)
         return self
 
     def __exit__(self, *_):
