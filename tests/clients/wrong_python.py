@@ -213,7 +213,7 @@ IN_PYTHON = [
         Edit(SESSION, "        if job is not None and not job.over:\n            job.cancelled",
              "        if False:\n            job.cancelled")]),
     WrongClient("goes on where no item came in time", "test_worker.Waits", [
-        Edit(SESSION, "        if item is None:\n            self._stopped = True\n", "        if item is None:\n")]),
+        Edit(WORKER, "            self.stop()\n            raise StopIteration", "            raise StopIteration")]),
     WrongClient("drops the item that came with a worker's signal", "test_worker.Signals.test_while_it_waits", [
         Edit(WORKER, "if item is None else", "if item is None or self._stop else")]),
     WrongClient("has a worker's command get the terminal's signal", "test_worker.Signals.test_while_a_command_runs", [

@@ -11,7 +11,6 @@ from unittest import mock
 from context import GENEROUS, Case, asked, impatient, key, nobody, numbers, rv, session, until
 from rendezvous import statuses, worker
 from rendezvous.calls import Wait
-from rendezvous.session import Items
 from scripted import HANG_UP, SILENCE, Scripted, key_members, refused, reply, running_first, waiting, welcome
 from working import IGNORED, Working
 
@@ -313,7 +312,7 @@ class Waits(Case):
         """The loop has ended then, and asks no more."""
         for wait, told in ((Wait.NOW, "empty"), (60.0, "timedout")):
             with Scripted(welcome, reply("item", item="a"), reply(told)) as server, session(server) as one:
-                loop = Items(one, QUEUE, wait)
+                loop = worker.Awaited(one, QUEUE, wait)
                 self.assertEqual((list(loop), list(loop), loop.stop()), (["a"], [], False))
                 self.assertEqual(asked(server)[1:], [("request", 1, "take"), ("request", 2, "take")])
 

@@ -403,11 +403,13 @@ class Session:
 
 
 class Items(Iterator[str]):
-    """The items of a queue, one take behind another, until a cancel, or until a take of this wait gives none."""
+    """The items of a queue, one take behind another, until a cancel."""
 
-    def __init__(self, session: Session, queue: int, wait: Union[Wait, float] = Wait.FOREVER) -> None:
+    def __init__(self, session: Session, queue: int) -> None:
         self._session, self._queue = session, queue
-        self._call, self._own = made("take", queue, wait), None if isinstance(wait, Wait) else wait
+        self._call = made("take", queue, Wait.FOREVER)
+        # the time that each take has of its own
+        self._own: Optional[float] = None
         self._job: Optional[Job] = None
         self._stopped = False
 
@@ -426,24 +428,17 @@ class Items(Iterator[str]):
         if self._stopped:
             raise StopIteration
 
-        def item_met(outcome: Outcome) -> Optional[str]:
+        def item_met(outcome: Outcome) -> str:
             self._stopped = self._stopped or job.cancelled
-            return item_if_any(outcome)
+            return item_of(outcome)
         try:
-            return self._found(session._given(job, item_met))
+            return session._given(job, item_met)
         except errors.Cancelled:
             self._stopped = True
             raise StopIteration from None
         except errors.NotRecorded as fault:
             self._stopped = self._stopped or job.cancelled or isinstance(fault.outcome, Cancelled)
             raise
-
-    def _found(self, item: Optional[str]) -> str:
-        """The item that a take gave; the loop ends where it gave none."""
-        if item is None:
-            self._stopped = True
-            raise StopIteration
-        return item
 
     def stop(self) -> bool:
         """Ends this loop, from any thread and from a signal's handler: its take that waits, or else before the next one, and no

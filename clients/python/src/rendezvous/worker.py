@@ -12,7 +12,7 @@ import time
 from types import FrameType
 from typing import List, NamedTuple, Optional, Tuple, Union
 
-from .calls import Wait
+from .calls import Wait, made
 from .errors import EpochEnded, NotRecorded, RendezvousError, Unsettled
 from .replies import Cancelled, Item, Key
 from .session import Items, Session
@@ -65,12 +65,28 @@ def worked(address: Optional[str], work: Work) -> int:
         return worker.run()
 
 
+class Awaited(Items):
+    """The items of a queue, until none comes within a wait."""
+
+    def __init__(self, session: Session, queue: int, wait: Union[Wait, float]) -> None:
+        super().__init__(session, queue)
+        self._call, self._own = made("take", queue, wait), None if isinstance(wait, Wait) else wait
+
+    def __next__(self) -> str:
+        # a take that has no item gives none
+        item: Optional[str] = super().__next__()
+        if item is None:
+            self.stop()
+            raise StopIteration
+        return item
+
+
 class Worker:
     """The loop. `signalled` may come between any two of its steps: what it looks at is changed by single assignments."""
 
     def __init__(self, session: Session, work: Work) -> None:
         self._session, self._work = session, work
-        self._items = Items(session, work.queue, work.wait)
+        self._items = Awaited(session, work.queue, work.wait)
         self._stop: Optional[Stop] = None
         # the request whose item is done with, and the command of the next one
         self._done: Optional[Key] = None
