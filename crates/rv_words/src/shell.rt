@@ -102,7 +102,7 @@ fn matches_in<'a>(
         rows_of (found_of m) ≡ matches_of (shell_app word) (texts own.entry.now)) }
     ensures fault { IfErr result (IsFaultOf word (texts own.entry.now)) }
 {
-    let command = listed_command(alloc, word.listed())?;
+    let command = listed_command(alloc, word.listed())?.bin_name(word.called())?;
     Ok(command.try_get_matches_from(own)?)
 }
 

@@ -1,5 +1,5 @@
 -- The commands of a shell, as `clap` reads them.
-use Rattle.std.specs.Prelude.{codes, List, Some, true, [], ◌∷◌, ◌++◌}
+use Rattle.std.specs.Prelude.{codes, List, Some, true, [], ◌∷◌}
 use Rattle.clap.specs.Words.{App, Rule, Text, new_app, new_rule}
 use Rattle.clap.specs.declared.builder.ArgAction.TheVariants.{Set, SetTrue}
 use Rattle.rv_words.specs.Listed.{with_rules}

@@ -42,6 +42,19 @@ impl ShellWord {
         }
     }
 
+    /// What help calls it.
+    pub(crate) fn called(self) -> &'static str {
+        match self {
+            ShellWord::Put => "rv put",
+            ShellWord::Take => "rv take",
+            ShellWord::Transfer => "rv transfer",
+            ShellWord::Drain => "rv drain",
+            ShellWord::Count => "rv count",
+            ShellWord::Peek => "rv peek",
+            ShellWord::Swap => "rv swap",
+        }
+    }
+
     /// How it is listed.
     pub(crate) fn listed(self) -> &'static ListedCommand
         ensures { listed_app result.now ≡ shell_app self }

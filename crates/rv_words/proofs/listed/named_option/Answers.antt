@@ -1,5 +1,5 @@
 -- The rule has what the steps set.
-use Rattle.std.proofs.Common.{◌≡◌, ◌∙◌, Some, ap, length}
+use Rattle.std.proofs.Common.{◌∙◌, Some, ap, length}
 use Rattle.clap.specs.Walk.{texts}
 use Rattle.clap.specs.Words.{Rule, rule_of}
 use Rattle.clap.specs.declared.builder.arg.Arg.{Arg}

@@ -1,5 +1,5 @@
 -- Each step adds the first of the commands that are left.
-use Rattle.std.proofs.Common.{◌≡◌, ◌∙◌, ap}
+use Rattle.std.proofs.Common.{◌∙◌, ap}
 use Rattle.clap.specs.Words.{App, app_of, with_subcommand}
 use Rattle.rv_words.proofs.Listing.{command_added}
 use Rattle.rv_words.proofs.listed.with_commands.Goals as goal

@@ -1,5 +1,5 @@
 -- Its name in help changes nothing of what is read.
-use Rattle.std.proofs.Common.{◌≡◌, ◌∙◌, IfOk, ap}
+use Rattle.std.proofs.Common.{◌∙◌, ap}
 use Rattle.std.proofs.lemmas.Result.{IfOk-weaker}
 use Rattle.clap.specs.Simple.{app_of_fields}
 use Rattle.rv_words.proofs.options.words.host_words.Goals as goal
