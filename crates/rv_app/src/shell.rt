@@ -138,7 +138,7 @@ struct Asking<'a> {
     server: &'a str,
     client: u64,
     incarnation: u64,
-    // Whether a server was there once: only then one that is lost is tried again.
+    // Whether a server was there once: then one that is lost is tried again.
     was_there: bool,
 }
 
@@ -155,8 +155,9 @@ impl Asking<'_> {
     // The reply of the call, which is asked again over another connection where one is lost.
     fn settled(&mut self, call: &Call) -> Result<(Key, Reply), ShellEnd> {
         let mut earlier = None;
-        for _ in 0..TRIES {
-            match self.tried(call, earlier)? {
+        for tried in 0..TRIES {
+            let may_come = self.was_there || tried < FIRST_TRIES;
+            match self.tried(call, earlier, may_come)? {
                 Tried::Settled(key, reply) => return Ok((key, reply)),
                 Tried::Lost(key) => earlier = key,
             }
@@ -168,10 +169,15 @@ impl Asking<'_> {
         }
     }
 
-    // Asks once, over a connection of its own.
-    fn tried(&mut self, call: &Call, earlier: Option<Key>) -> Result<Tried, ShellEnd> {
+    // Asks once, over a connection of its own, which may come later if there is none.
+    fn tried(
+        &mut self,
+        call: &Call,
+        earlier: Option<Key>,
+        may_come: bool,
+    ) -> Result<Tried, ShellEnd> {
         let Some(stream) = self.found()? else {
-            return if self.was_there {
+            return if may_come {
                 Ok(Tried::Lost(earlier))
             } else {
                 Err(ShellEnd::NoServer)
