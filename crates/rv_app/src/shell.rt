@@ -1,4 +1,4 @@
-//! `rv put`, `rv take` and the other commands of a shell: one call each, over as many connections as it takes.
+//! `rv put`, `rv take` and the other commands of a shell: one call each, over several connections if need be.
 
 mod end;
 
@@ -6,7 +6,7 @@ use crate::connected;
 use crate::lease::take_lease;
 use crate::shell::end::ShellEnd;
 use rv_client::New;
-use rv_commands::{CallEnd, Form, ask_call, call_for, first_piece, reply_text, status_of};
+use rv_commands::{CallEnd, ReplyForm, ask_call, call_for, first_piece, reply_text, status_of};
 use rv_frame::{Sink, Source};
 use rv_text::{Call, Key, Refusal, Reply, Version, Wait, fits_identifier};
 use rv_words::shell::{ShellCall, ShellFault, read_shell};
@@ -61,18 +61,18 @@ fn run_call(rt: &HostRuntime, asked: ShellCall) -> ExitCode {
 }
 
 // How the reply is printed.
-fn form_of(asked: &ShellCall) -> Form {
+fn form_of(asked: &ShellCall) -> ReplyForm {
     if asked.json {
-        Form::Json
+        ReplyForm::Json
     } else if asked.null {
-        Form::Zeros
+        ReplyForm::Zeros
     } else {
-        Form::Lines
+        ReplyForm::Lines
     }
 }
 
 // Prints the reply in one write, and returns its status.
-fn print_reply(rt: &HostRuntime, form: Form, key: Key, reply: Reply) -> Result<u8, ShellEnd> {
+fn print_reply(rt: &HostRuntime, form: ReplyForm, key: Key, reply: Reply) -> Result<u8, ShellEnd> {
     let status = status_of(&reply);
     let text = reply_text(rt.alloc(), form, key, reply)?;
     let mut out = Sink::new(rt.stdout());
@@ -88,7 +88,7 @@ fn answered(rt: &HostRuntime, asked: &ShellCall) -> Result<(Key, Reply), ShellEn
     let Some(lease) = take_lease(rt) else {
         return Err(ShellEnd::Leased);
     };
-    let mut asking = Asking {
+    let mut client = ShellClient {
         rt,
         server: server.as_str(),
         client: lease.client,
@@ -102,7 +102,7 @@ fn answered(rt: &HostRuntime, asked: &ShellCall) -> Result<(Key, Reply), ShellEn
             None => (Wait::Now, None),
         };
         let call = call_for(rt.alloc(), &asked.call, piece)?;
-        let (key, reply) = asking.settled(&call)?;
+        let (key, reply) = client.settled(&call)?;
         match (rest, &reply) {
             (Some(wait), Reply::TimedOut) => left = Some(wait),
             _ => return Ok((key, reply)),
@@ -133,7 +133,7 @@ fn micros(rt: &HostRuntime) -> u64 {
 
 // A client that asks its calls one after another, each in an incarnation of its own.
 #[derive(Drop)]
-struct Asking<'a> {
+struct ShellClient<'a> {
     rt: &'a HostRuntime,
     server: &'a str,
     client: u64,
@@ -151,7 +151,7 @@ enum Tried {
     Lost(Option<Key>),
 }
 
-impl Asking<'_> {
+impl ShellClient<'_> {
     // The reply of the call, which is asked again over another connection where one is lost.
     fn settled(&mut self, call: &Call) -> Result<(Key, Reply), ShellEnd> {
         let mut earlier = None;

@@ -1,5 +1,6 @@
 -- Items that are printed one after another.
-use Rattle.std.proofs.Common.{◌≡◌, ◌∙◌, ◌++◌, ◌+◌, ◌<◌, List, ap, append_assoc, drop, length, slice_index_or, sym, ℕ}
+use Rattle.std.proofs.Common.{◌≡◌, ◌∙◌, ◌++◌, ◌+◌, ◌<◌, List, ap, append_assoc, drop, length, slice_index_or}
+use Rattle.std.proofs.Common.{sym, ℕ}
 use Rattle.std.proofs.lemmas.List.{at_drop_more}
 use Rattle.rv_commands.specs.Printed.{ended_items}
 

@@ -5,7 +5,7 @@ use Rattle.rv_text.specs.declared.call.Call.{Call}
 use Rattle.rv_text.specs.declared.message.Key.{Key}
 use Rattle.rv_client.specs.Link.{Link}
 use Rattle.rv_client.specs.Process.{Asking, Starting, first_key}
-use Rattle.rv_commands.specs.Asking.{EndsAsking, EndsCall, EndsRequest, IsWelcomed}
+use Rattle.rv_commands.specs.Asking.{EndsAsking, EndsCall, EndsFirstRequest, GetsWelcome}
 use Rattle.rv_commands.specs.declared.asking.CallEnd.{CallEnd}
 use Rattle.rv_commands.specs.declared.asking.CallEnd.TheVariants as ends
 
@@ -13,22 +13,25 @@ module _ {R W : Type 0} (remaining : R → Option (List ℕ)) (contents : W → 
   -- no request ends as a hello does
   as_request : (starting : Starting) (call : Call) (earlier : Option Key) (before between after : Link R W)
       (asking : Asking) (end : CallEnd) → EndsAsking remaining contents asking between after end
-      → EndsRequest remaining contents starting call earlier before after end
+      → EndsFirstRequest remaining contents starting call earlier before after end
       → EndsCall remaining contents starting call earlier before after end
   as_request starting call earlier before between after asking (ends.Replied key reply) ended whole = whole
   as_request starting call earlier before between after asking (ends.Refused key refusal) ended whole = whole
   as_request starting call earlier before between after asking (ends.Unsettled key fault) ended whole = whole
-  as_request starting call earlier before between after asking (ends.EpochEnded key current) ended whole = whole
+  as_request starting call earlier before between after asking (ends.EpochEnded key current) ended whole =
+      whole
   as_request starting call earlier before between after asking (ends.Replaced key current) ended whole = whole
   as_request starting call earlier before between after asking (ends.Moved key epoch) ended whole =
       absurd ended.2
   as_request starting call earlier before between after asking (ends.Unwelcome refusal) ended whole =
       absurd ended.2
-  as_request starting call earlier before between after asking (ends.Unheard fault) ended whole = absurd ended.2
+  as_request starting call earlier before between after asking (ends.Unheard fault) ended whole =
+      absurd ended.2
 
   -- a welcome, and what came of the request that was begun with its key
   pub ends_call : (starting : Starting) (call : Call) (earlier : Option Key) (before between after : Link R W)
-      (next : Option Key) (asking : Asking) (end : CallEnd) → IsWelcomed remaining contents starting before between next
+      (next : Option Key) (asking : Asking) (end : CallEnd)
+      → GetsWelcome remaining contents starting before between next
       → next ≡ Some asking.key → asking.call ≡ call → IfSome earlier (λ key. key ≡ asking.key)
       → EndsAsking remaining contents asking between after end
       → EndsCall remaining contents starting call earlier before after end

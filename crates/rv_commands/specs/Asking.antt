@@ -7,7 +7,8 @@ use Rattle.rv_text.specs.declared.call.Call.{Call}
 use Rattle.rv_text.specs.declared.message.Key.{Key}
 use Rattle.rv_text.specs.Limits.{FitsIdentifier}
 use Rattle.rv_client.specs.Link.{Asks, Link, message_frame}
-use Rattle.rv_client.specs.Process.{Asking, EndsEpoch, PassesBy, Replaces, SaysNothingFinal, Settles, Starting}
+use Rattle.rv_client.specs.Process.{Asking, EndsEpoch, PassesBy, Replaces, SaysNothingFinal, Settles}
+use Rattle.rv_client.specs.Process.{Starting}
 use Rattle.rv_client.specs.Process.{Welcomes, first_key, hello_of, request_of}
 use Rattle.rv_client.specs.declared.fault.LinkFault.{LinkFault}
 use Rattle.rv_commands.specs.declared.asking.CallEnd.{CallEnd}
@@ -19,20 +20,22 @@ refusal_in (answers.Refused refusal) = Some refusal
 refusal_in _ = None
 
 -- what an answer to a request says of it
-abbrev pub TellsOf : Asking → Answer → CallEnd → Type 0
-TellsOf asking answer (ends.Replied key reply) = (key ≡ asking.key) × Settles asking.key answer reply
-TellsOf asking answer (ends.Refused key refusal) =
+abbrev pub TellsOfRequest : Asking → Answer → CallEnd → Type 0
+TellsOfRequest asking answer (ends.Replied key reply) = (key ≡ asking.key) × Settles asking.key answer reply
+TellsOfRequest asking answer (ends.Refused key refusal) =
     (key ≡ asking.key) × (answer ≡ answers.Refused refusal) × SaysNothingFinal asking.key answer
-TellsOf asking answer (ends.Unsettled key None) =
+TellsOfRequest asking answer (ends.Unsettled key None) =
     (key ≡ asking.key) × (refusal_in answer ≡ None) × SaysNothingFinal asking.key answer
-TellsOf asking answer (ends.EpochEnded key current) = (key ≡ asking.key) × EndsEpoch asking.key answer current
-TellsOf asking answer (ends.Replaced key current) = (key ≡ asking.key) × Replaces asking.key answer current
-TellsOf asking answer _ = ⊥
+TellsOfRequest asking answer (ends.EpochEnded key current) = (key ≡ asking.key) × EndsEpoch asking.key answer
+    current
+TellsOfRequest asking answer (ends.Replaced key current) = (key ≡ asking.key) × Replaces asking.key answer
+    current
+TellsOfRequest asking answer _ = ⊥
 
 module _ {R W : Type 0} (remaining : R → Option (List ℕ)) (contents : W → Option (List ℕ)) where
   -- the hello went out once, and this came of it
-  abbrev pub SaysHello : Starting → Link R W → Link R W → Result Answer LinkFault → Type 0
-  SaysHello starting before after result =
+  abbrev pub SendsHello : Starting → Link R W → Link R W → Result Answer LinkFault → Type 0
+  SendsHello starting before after result =
       Asks remaining contents (message_frame (hello_of starting)) before after result
 
   -- the request went out once, and this came of it
@@ -41,21 +44,21 @@ module _ {R W : Type 0} (remaining : R → Option (List ℕ)) (contents : W → 
       Asks remaining contents (message_frame (request_of asking)) before after result
 
   -- the hello welcomed the client, whose next key is its first one in the welcome's epoch
-  pub record IsWelcomed (starting : Starting) (before after : Link R W) (next : Option Key) : Type 0 where
+  pub record GetsWelcome (starting : Starting) (before after : Link R W) (next : Option Key) : Type 0 where
     pub epoch : ℕ
     pub fits : FitsIdentifier epoch
     pub answer : Answer
-    pub says : SaysHello starting before after (Ok answer)
+    pub says : SendsHello starting before after (Ok answer)
     pub welcomes : Welcomes starting answer epoch
     pub first : next ≡ Some (first_key starting epoch)
 
   -- the hello didn't: it was refused, it met a fault of the link, or its answer says nothing to the client
   abbrev pub EndsHello : Starting → Link R W → Link R W → CallEnd → Type 0
   EndsHello starting before after (ends.Unwelcome refusal) =
-      SaysHello starting before after (Ok (answers.Refused refusal))
-  EndsHello starting before after (ends.Unheard (Some fault)) = SaysHello starting before after (Err fault)
+      SendsHello starting before after (Ok (answers.Refused refusal))
+  EndsHello starting before after (ends.Unheard (Some fault)) = SendsHello starting before after (Err fault)
   EndsHello starting before after (ends.Unheard None) =
-      (answer : Answer) × SaysHello starting before after (Ok answer) × PassesBy starting answer
+      (answer : Answer) × SendsHello starting before after (Ok answer) × PassesBy starting answer
   EndsHello starting before after _ = ⊥
 
   -- the request met a fault of the link, or its answer says this of it
@@ -63,22 +66,23 @@ module _ {R W : Type 0} (remaining : R → Option (List ℕ)) (contents : W → 
   EndsAsking asking before after (ends.Unsettled key (Some fault)) =
       (key ≡ asking.key) × AsksFor asking before after (Err fault)
   EndsAsking asking before after end =
-      (answer : Answer) × AsksFor asking before after (Ok answer) × TellsOf asking answer end
+      (answer : Answer) × AsksFor asking before after (Ok answer) × TellsOfRequest asking answer end
 
   -- once the client was welcome, its first request in that epoch, which is the earlier one if there was one,
   -- ended so
-  pub record EndsRequest (starting : Starting) (call : Call) (earlier : Option Key) (before after : Link R W)
+  pub record EndsFirstRequest (starting : Starting) (call : Call) (earlier : Option Key) (before after :
+      Link R W)
       (end : CallEnd) : Type 0 where
     pub epoch : ℕ
     pub between : Link R W
-    pub welcomed : IsWelcomed starting before between (Some (first_key starting epoch))
+    pub welcomed : GetsWelcome starting before between (Some (first_key starting epoch))
     pub same : IfSome earlier (λ key. key ≡ first_key starting epoch)
     pub ended : EndsAsking (record { key = first_key starting epoch; call = call }) between after end
 
   -- the client was welcome in this epoch, in which its first request isn't the earlier one, and asked nothing
   pub record HasMoved (starting : Starting) (earlier : Option Key) (key : Key) (epoch : ℕ)
       (before after : Link R W) : Type 0 where
-    pub welcomed : IsWelcomed starting before after (Some (first_key starting epoch))
+    pub welcomed : GetsWelcome starting before after (Some (first_key starting epoch))
     pub was : earlier ≡ Some key
     pub other : ¬ (key ≡ first_key starting epoch)
 
@@ -90,4 +94,4 @@ module _ {R W : Type 0} (remaining : R → Option (List ℕ)) (contents : W → 
       EndsHello starting before after (ends.Unheard fault)
   EndsCall starting call earlier before after (ends.Moved key epoch) =
       HasMoved starting earlier key epoch before after
-  EndsCall starting call earlier before after end = EndsRequest starting call earlier before after end
+  EndsCall starting call earlier before after end = EndsFirstRequest starting call earlier before after end

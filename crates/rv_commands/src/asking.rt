@@ -3,7 +3,7 @@ ghost use Rattle.std.specs.Prelude.{◌≡◌, IfErr, IfOk, IfSome, None, Some};
 ghost use Rattle.rv_text.specs.Limits.{FitsCall, FitsIdentifier, FitsKey};
 ghost use Rattle.rv_client.specs.Link.{Asks, link, message_frame};
 ghost use Rattle.rv_client.specs.Process.{first_key, request_of};
-ghost use Rattle.rv_commands.specs.Asking.{EndsAsking, EndsCall, EndsHello, IsWelcomed, TellsOf};
+ghost use Rattle.rv_commands.specs.Asking.{EndsAsking, EndsCall, EndsHello, GetsWelcome, TellsOfRequest};
 ghost use Rattle.rv_commands.specs.Asking.{refusal_in};
 
 use rv_client::{HearOutcome, Idle, LinkFault, New, Outstanding, WelcomeOutcome, ask};
@@ -26,7 +26,7 @@ pub enum CallEnd {
     EpochEnded(Key, u64),
     /// The request of this key ended without a reply: its client has this later incarnation.
     Replaced(Key, u64),
-    /// The request of this key, which was asked before, wasn't asked again: the server is in this other epoch.
+    /// The request of this key, which was asked before, wasn't asked again: the server has this other epoch.
     Moved(Key, u64),
     /// The hello was refused, for this reason, and nothing was asked.
     Unwelcome(Refusal),
@@ -87,7 +87,7 @@ fn say_hello<R: Read, W: Write>(
 ) -> Result<Idle, CallEnd>
     requires client { FitsIdentifier new.client }
     requires incarnation { FitsIdentifier new.incarnation }
-    ensures welcome { IfOk result (IsWelcomed R.remaining W.contents new
+    ensures welcome { IfOk result (GetsWelcome R.remaining W.contents new
         (link from.old to.old) (link from.new to.new)) }
     ensures ended { IfErr result (EndsHello R.remaining W.contents new
         (link from.old to.old) (link from.new to.new)) }
@@ -127,7 +127,7 @@ fn ask_once<R: Read, W: Write>(
 
 // Hears the answer to a request.
 fn hear(outstanding: Outstanding, answer: Answer) -> CallEnd
-    ensures { TellsOf outstanding answer result }
+    ensures { TellsOfRequest outstanding answer result }
 {
     let key = outstanding.key();
     let refusal = refusal_of(&answer);

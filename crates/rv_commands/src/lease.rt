@@ -7,7 +7,8 @@ const FIRST_PORT: u16 = 61_000;
 
 const PORTS: u64 = 4_096;
 
-// The addresses of leases, from 127.64.0.0 on; users and blocks of numbers are spread over them by an odd factor.
+// The addresses of leases, from 127.64.0.0 on; users and blocks of numbers are spread over them by an odd
+// factor.
 const ADDRESSES: u128 = 4_194_304;
 
 const FACTOR: u128 = 2_654_435_761;

@@ -1,13 +1,13 @@
 //! What a command prints of its request's reply, and the status that tells it.
 ghost use Rattle.std.specs.Prelude.{◌≡◌, ◌++◌, IfOk, string_bytes};
-ghost use Rattle.rv_commands.specs.Printed.{ended_items, ended_text, key_words, printed, status_by};
+ghost use Rattle.rv_commands.specs.Printed.{ended_items, ended_text, key_words, printed, reply_status};
 
 use rv_text::{Answer, Item, Key, NoMemory, Reply, encode_answer};
 use std::alloc::Global;
 
 /// How a reply is printed.
 #[derive(Clone, Copy, PartialEq, Eq)]
-pub enum Form {
+pub enum ReplyForm {
     /// Each item or line ends with LF.
     Lines,
     /// Each item or line ends with a zero byte.
@@ -19,20 +19,25 @@ pub enum Form {
 /// The text that is printed of a reply: the item alone, each item of a drain, `done`, `received` with the
 /// taker's client, incarnation and number, or the counts of items and of consumers. Of a reply that nothing
 /// took place it is empty, but for its body.
-pub fn reply_text(alloc: Global, form: Form, key: Key, reply: Reply) -> Result<String, NoMemory>
+pub fn reply_text(
+    alloc: Global,
+    form: ReplyForm,
+    key: Key,
+    reply: Reply,
+) -> Result<String, NoMemory>
     ensures { IfOk result (λ text. string_bytes text ≡ printed form key reply) }
 {
     match form {
-        Form::Lines => text_ended(alloc, &reply, "\n"),
-        Form::Zeros => text_ended(alloc, &reply, "\0"),
-        Form::Json => body_line(alloc, key, reply),
+        ReplyForm::Lines => text_ended(alloc, &reply, "\n"),
+        ReplyForm::Zeros => text_ended(alloc, &reply, "\0"),
+        ReplyForm::Json => body_line(alloc, key, reply),
     }
 }
 
-/// The status that tells a reply: 0 where it took place, 3 where nobody or no item was there, 4 where its wait
-/// ended, 5 where it was cancelled.
+/// The status that tells a reply: 0 where it took place, 3 where nobody or no item was there, 4 where its
+/// wait ended, 5 where it was cancelled.
 pub fn status_of(reply: &Reply) -> u8
-    ensures { result ≡ status_by reply.now }
+    ensures { result ≡ reply_status reply.now }
 {
     match reply {
         Reply::Nobody | Reply::Empty => 3,
@@ -45,7 +50,7 @@ pub fn status_of(reply: &Reply) -> u8
 
 // The body of the reply's answer, and LF.
 fn body_line(alloc: Global, key: Key, reply: Reply) -> Result<String, NoMemory>
-    ensures { IfOk result (λ text. string_bytes text ≡ printed Form.Json key reply) }
+    ensures { IfOk result (λ text. string_bytes text ≡ printed ReplyForm.Json key reply) }
 {
     let mut text = encode_answer(alloc, &Answer::Replied { key, reply })?;
     text.push('\n')?;

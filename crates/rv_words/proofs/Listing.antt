@@ -1,5 +1,6 @@
 -- Commands and options that are added one after another, as they are listed.
-use Rattle.std.proofs.Common.{◌≡◌, ◌∙◌, ◌+◌, ◌<◌, Bool, Bor, List, Some, ap, drop, false, length, map, slice_index_or, sym, ℕ}
+use Rattle.std.proofs.Common.{◌≡◌, ◌∙◌, ◌+◌, ◌<◌, Bool, Bor, List, Some, ap, drop, false, length, map}
+use Rattle.std.proofs.Common.{slice_index_or, sym, ℕ}
 use Rattle.std.specs.Prelude.{◌||◌}
 use Rattle.std.proofs.lemmas.List.{at_drop_more}
 use Rattle.clap.specs.Words.{AddsArg, App, Rule, Text, app_of, rule_of, with_rule, with_subcommand}

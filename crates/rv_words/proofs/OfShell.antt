@@ -6,11 +6,12 @@ use Rattle.clap.specs.Words.{HasKind, IsAmong, Text, fault_of, is_simple, is_sim
 use Rattle.clap.specs.declared.error.Error.{Error}
 use Rattle.clap.specs.declared.error.kind.ErrorKind.{ErrorKind}
 use Rattle.clap.specs.declared.error.kind.ErrorKind.TheVariants.{OutOfMemory}
-use Rattle.rv_words.specs.shell.Faults.{IsFaultOf, fault_by}
+use Rattle.rv_words.specs.shell.Faults.{IsShellFault, shell_fault_by}
 use Rattle.rv_words.specs.shell.Words.{shell_app}
 use Rattle.rv_words.specs.declared.shell.fault.ShellFault.{ShellFault}
 use Rattle.rv_words.specs.declared.shell.word.ShellWord.{ShellWord}
-use Rattle.rv_words.specs.declared.shell.word.ShellWord.TheVariants.{Count, Drain, Peek, Put, Swap, Take, Transfer}
+use Rattle.rv_words.specs.declared.shell.word.ShellWord.TheVariants.{Count, Drain, Peek, Put, Swap, Take}
+use Rattle.rv_words.specs.declared.shell.word.ShellWord.TheVariants.{Transfer}
 
 pub simple_and_free : (word : ShellWord) → is_simple_and_free (shell_app word) ≡ true
 unfolding clap_on_literals
@@ -34,14 +35,15 @@ simple Swap = refl
 
 by_kind : (word : ShellWord) (own : List Text) (error : Error) (kind : ErrorKind)
     → (kind ≡ OutOfMemory) ⊎ IsAmong kind (fault_of (shell_app word) own) → kind ≡ kind_of error
-    → IsFaultOf word own (fault_by kind error)
+    → IsShellFault word own (shell_fault_by kind error)
 by_kind word own error OutOfMemory has is = tt
 by_kind word own error kind (inl out) is = absurd (cc)
 by_kind word own error kind (inr among) is =
     subst (λ (k : ErrorKind). IsAmong k (fault_of (shell_app word) own)) is among
 
 pub refused_as : (word : ShellWord) (own : List Text) (error : Error) (fault : ShellFault)
-    → fault ≡ fault_by (kind_of error) error → HasKind (fault_of (shell_app word) own) error
-    → IsFaultOf word own fault
+    → fault ≡ shell_fault_by (kind_of error) error → HasKind (fault_of (shell_app word) own) error
+    → IsShellFault word own fault
 refused_as word own error fault is has =
-    subst (λ (f : ShellFault). IsFaultOf word own f) (sym is) (by_kind word own error (kind_of error) has refl)
+    subst (λ (f : ShellFault). IsShellFault word own f) (sym is) (by_kind word own error (kind_of error) has
+    refl)

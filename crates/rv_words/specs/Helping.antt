@@ -9,10 +9,11 @@ use Rattle.rv_words.specs.Program.{command_app, rv_app}
 use Rattle.rv_words.specs.Verifying.{verify_app}
 use Rattle.rv_words.specs.shell.Words.{shell_app}
 use Rattle.rv_words.specs.declared.helping.HelpAnswer.{HelpAnswer}
-use Rattle.rv_words.specs.declared.shell.word.ShellWord.TheVariants.{Count, Drain, Peek, Put, Swap, Take, Transfer}
+use Rattle.rv_words.specs.declared.shell.word.ShellWord.TheVariants.{Count, Drain, Peek, Put, Swap, Take}
+use Rattle.rv_words.specs.declared.shell.word.ShellWord.TheVariants.{Transfer}
 
--- the commands that read their words themselves, but for `host`: `record --to FILE`, as help shows it, `version`,
--- `verify`, and those of a shell
+-- the commands that read their words themselves, but for `host`: `record --to FILE`, as help shows it,
+-- `version`, `verify`, and those of a shell
 abbrev pub other_apps : List App
 other_apps =
     command_app (codes "record") (codes "to" ∷ [])

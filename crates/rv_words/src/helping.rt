@@ -92,11 +92,15 @@ fn whole_program<'a>(alloc: Global) -> Result<clap::Command<'a>, AllocError>
     program.subcommand(host)
 }
 
+// What help says of `record`.
+const RECORD_ABOUT: &str =
+    "Do as call does, and append each request and its reply to a file: --to FILE, then its options";
+
 // The commands that read their words themselves, but for `host`.
 const OTHERS: &[ListedCommand] = &[
     ListedCommand {
         name: "record",
-        about: "Do as call does, and append each request and its reply to a file: --to FILE, then its options",
+        about: RECORD_ABOUT,
         options: &[ListedOption {
             name: "to",
             help: "The file to which each request and its reply are appended",

@@ -28,9 +28,15 @@ pub(crate) fn program<'a>(alloc: Global) -> Result<Command<'a>, AllocError>
     with_commands(alloc, named(alloc, "rv", ABOUT), COMMANDS)
 }
 
-// What help says of it.
+// What help says of it, and at greater length of some others.
 const ABOUT: &str =
     "A rendezvous server: hands items from program to program, and tells each what came of it";
+
+const END_ABOUT: &str =
+    "End the requests that have waited for so long with no connection, by hellos of greater incarnations";
+
+const OLDER_HELP: &str =
+    "For how long, as 60s or 10m: longer than clients take to connect anew, else these lose theirs";
 
 // Its commands, each with the options that have to be given.
 const COMMANDS: &[ListedCommand] = &[
@@ -112,7 +118,7 @@ const COMMANDS: &[ListedCommand] = &[
     },
     ListedCommand {
         name: "end",
-        about: "End the requests that have waited for so long with no connection, by hellos of greater incarnations",
+        about: END_ABOUT,
         options: &[
             ListedOption {
                 name: "status",
@@ -126,7 +132,7 @@ const COMMANDS: &[ListedCommand] = &[
             },
             ListedOption {
                 name: "older",
-                help: "For how long, as 60s or 10m: longer than clients take to connect anew, else these lose theirs",
+                help: OLDER_HELP,
                 ..NEEDED
             },
         ],

@@ -6,9 +6,9 @@ ghost use Rattle.rv_json.specs.Limits.{FitsItem};
 ghost use Rattle.rv_text.specs.Limits.{FitsCall, FitsWait};
 ghost use Rattle.rv_words.specs.Beginning.{BeginWithout};
 ghost use Rattle.rv_words.specs.command.Command.{GivesBetween};
-ghost use Rattle.rv_words.specs.shell.Calls.{GivesItem, GivesPlace, IsWait, NamesCall, SaysAll, SaysCall};
-ghost use Rattle.rv_words.specs.shell.Calls.{row_of, swap_wait};
-ghost use Rattle.rv_words.specs.shell.Faults.{HasFault, IsFaultIn, IsFaultOf};
+ghost use Rattle.rv_words.specs.shell.Calls.{GivesItem, GivesPlace, IsWait, NamesCall, SaysShell};
+ghost use Rattle.rv_words.specs.shell.Calls.{SaysShellCall, swap_wait, value_row};
+ghost use Rattle.rv_words.specs.shell.Faults.{HasShellFault, IsFaultIn, IsShellFault};
 ghost use Rattle.rv_words.specs.declared.shell.fault.ShellFault.TheVariants.{Outside};
 ghost use Rattle.rv_words.specs.declared.shell.value.ShellValue.TheVariants as value;
 ghost use Rattle.rv_words.specs.shell.Words.{shell_app, shell_word};
@@ -42,10 +42,10 @@ pub struct ShellCall<'a> {
     pub json: bool,
 }
 
-/// The call that the words name, the program's name first, as `clap` reads them; `None` if the word after that
-/// is none of these commands. A queue or exchanger is 0 to 63, an item at most 512 bytes, a wait a span as
-/// [`read_duration`](crate::read_duration) reads it: without one the call waits until it is met, with one of 0
-/// not at all.
+/// The call that the words name, the program's name first, as `clap` reads them; `None` if the word after
+/// that is none of these commands. A queue or exchanger is 0 to 63, an item at most 512 bytes, a wait a span
+/// as [`read_duration`](crate::read_duration) reads it: without one the call waits until it is met, with one
+/// of 0 not at all.
 pub fn read_shell<'a>(
     alloc: Global,
     words: &'a [&'a str],
@@ -54,7 +54,7 @@ pub fn read_shell<'a>(
     ensures fits { IfOk result (λ found. IfSome found (λ c. FitsCall c.call)) }
     ensures other { IfOk result (λ found. found ≡ None → (word : ShellWord)
         → BeginWithout (shell_word word) (texts words.entry.now)) }
-    ensures fault { IfErr result (HasFault (texts words.entry.now)) }
+    ensures fault { IfErr result (HasShellFault (texts words.entry.now)) }
 {
     match own_words(words) {
         Some((word, own)) => Ok(Some(said(alloc, word, own)?)),
@@ -83,9 +83,9 @@ fn said<'a>(
     own: &'a [&'a str],
 ) -> Result<ShellCall<'a>, ShellFault<'a>>
     ensures taken { IfOk result (λ _. fault_of (shell_app word) (texts own.entry.now) ≡ []) }
-    ensures says { IfOk result (SaysAll word (matches_of (shell_app word) (texts own.entry.now))) }
+    ensures says { IfOk result (SaysShell word (matches_of (shell_app word) (texts own.entry.now))) }
     ensures fits { IfOk result (λ c. FitsCall c.call) }
-    ensures fault { IfErr result (IsFaultOf word (texts own.entry.now)) }
+    ensures fault { IfErr result (IsShellFault word (texts own.entry.now)) }
 {
     let matches = matches_in(alloc, word, own)?;
     said_by(alloc, word, &matches)
@@ -100,7 +100,7 @@ fn matches_in<'a>(
     ensures taken { IfOk result (λ _. fault_of (shell_app word) (texts own.entry.now) ≡ []) }
     ensures found { IfOk result (λ m.
         rows_of (found_of m) ≡ matches_of (shell_app word) (texts own.entry.now)) }
-    ensures fault { IfErr result (IsFaultOf word (texts own.entry.now)) }
+    ensures fault { IfErr result (IsShellFault word (texts own.entry.now)) }
 {
     let command = listed_command(alloc, word.listed())?.bin_name(word.called())?;
     Ok(command.try_get_matches_from(own)?)
@@ -112,7 +112,7 @@ fn said_by<'a>(
     word: ShellWord,
     given: &ArgMatches<'a>,
 ) -> Result<ShellCall<'a>, ShellFault<'a>>
-    ensures ok { IfOk result (SaysAll word (rows_of (found_of given.now))) }
+    ensures ok { IfOk result (SaysShell word (rows_of (found_of given.now))) }
     ensures fits { IfOk result (λ c. FitsCall c.call) }
     ensures fault { IfErr result (IsFaultIn (rows_of (found_of given.now))) }
 {
@@ -135,7 +135,7 @@ fn call_of<'a>(
     word: ShellWord,
     given: &ArgMatches<'a>,
 ) -> Result<Call, ShellFault<'a>>
-    ensures ok { IfOk result (SaysCall (rows_of (found_of given.now)) word) }
+    ensures ok { IfOk result (SaysShellCall (rows_of (found_of given.now)) word) }
     ensures fits { IfOk result FitsCall }
     ensures fault { IfErr result (IsFaultIn (rows_of (found_of given.now))) }
 {
@@ -184,7 +184,7 @@ fn place_of<'a>(given: &ArgMatches<'a>) -> Result<u64, ShellFault<'a>>
 
 // How many items are taken at most.
 fn max_of<'a>(given: &ArgMatches<'a>) -> Result<u64, ShellFault<'a>>
-    ensures ok { IfOk result (GivesBetween 1 16 (row_of value.Max (rows_of (found_of given.now)))) }
+    ensures ok { IfOk result (GivesBetween 1 16 (value_row value.Max (rows_of (found_of given.now)))) }
     ensures fault { IfErr result (IsFaultIn (rows_of (found_of given.now))) }
 {
     let Some(text) = text_of(given, ShellValue::Max.word()) else {
@@ -215,7 +215,7 @@ fn item_of<'a>(alloc: Global, given: &ArgMatches<'a>) -> Result<Item, ShellFault
 
 // The wait that is given.
 fn wait_of<'a>(given: &ArgMatches<'a>) -> Result<Wait, ShellFault<'a>>
-    ensures ok { IfOk result (IsWait (row_of value.Wait (rows_of (found_of given.now)))) }
+    ensures ok { IfOk result (IsWait (value_row value.Wait (rows_of (found_of given.now)))) }
     ensures fits { IfOk result FitsWait }
     ensures fault { IfErr result (IsFaultIn (rows_of (found_of given.now))) }
 {

@@ -1,5 +1,5 @@
 -- The calls that the words of a shell's command say.
-use Rattle.std.specs.Prelude.{codes, List, ℕ, Bool, None, Option, Some, true, [], ◌∷◌, ◌≡◌, ◌≤◌, ◌↔◌}
+use Rattle.std.specs.Prelude.{codes, List, ℕ, None, Option, Some, true, [], ◌∷◌, ◌≡◌, ◌≤◌}
 use Rattle.std.specs.Prelude.{option_map}
 use Rattle.clap.specs.Words.{Row, Text, fault_of, first_of, matches_of}
 use Rattle.rv_text.specs.declared.call.Call.{Call}
@@ -8,6 +8,7 @@ use Rattle.rv_text.specs.declared.call.Wait.{Wait}
 use Rattle.rv_text.specs.declared.call.Wait.TheVariants.{Forever, Millis, Now}
 use Rattle.rv_words.specs.command.Command.{GivesBetween}
 use Rattle.rv_words.specs.Durations.{WritesDuration}
+use Rattle.rv_words.specs.options.Options.{SaysFlag}
 use Rattle.rv_words.specs.shell.Words.{shell_app, shell_word, value_word}
 use Rattle.rv_words.specs.declared.shell.ShellCall.{ShellCall}
 use Rattle.rv_words.specs.declared.shell.value.ShellValue.{ShellValue}
@@ -16,16 +17,16 @@ use Rattle.rv_words.specs.declared.shell.word.ShellWord.{ShellWord}
 use Rattle.rv_words.specs.declared.shell.word.ShellWord.TheVariants as word
 
 -- the row of a value
-abbrev pub row_of : ShellValue → List Row → Option Text
-row_of value rows = first_of (value_word value) rows
+abbrev pub value_row : ShellValue → List Row → Option Text
+value_row value rows = first_of (value_word value) rows
 
 -- the queue or exchanger that is given
 abbrev pub GivesPlace : List Row → ℕ → Type 0
-GivesPlace rows place = GivesBetween 0 63 (row_of value.Place rows) place
+GivesPlace rows place = GivesBetween 0 63 (value_row value.Place rows) place
 
 -- the item that is given
 abbrev pub GivesItem : List Row → Text → Type 0
-GivesItem rows item = row_of value.Item rows ≡ Some item
+GivesItem rows item = value_row value.Item rows ≡ Some item
 
 -- the wait that is given: none for one of 0, and one without end where there is none
 abbrev pub IsWait : Option Text → Wait → Type 0
@@ -40,36 +41,34 @@ swap_wait Now = Millis 0
 swap_wait wait = wait
 
 -- the rows of this command say the call
-abbrev pub SaysCall : List Row → ShellWord → Call → Type 0
-SaysCall rows word.Put (call.Put queue item) = GivesPlace rows queue × GivesItem rows item
-SaysCall rows word.Take (call.Take queue wait) = GivesPlace rows queue × IsWait (row_of value.Wait rows) wait
-SaysCall rows word.Transfer (call.Transfer queue item wait) =
-    GivesPlace rows queue × GivesItem rows item × IsWait (row_of value.Wait rows) wait
-SaysCall rows word.Drain (call.Drain queue max) =
-    GivesPlace rows queue × GivesBetween 1 16 (row_of value.Max rows) max
-SaysCall rows word.Count (call.Count queue) = GivesPlace rows queue
-SaysCall rows word.Peek (call.Peek queue) = GivesPlace rows queue
-SaysCall rows word.Swap (call.Swap exchanger item wait) = GivesPlace rows exchanger × GivesItem rows item
-    × (given : Wait) × IsWait (row_of value.Wait rows) given × (wait ≡ swap_wait given)
-SaysCall rows _ _ = ⊥
-
--- the row of a flag says whether it is there
-abbrev pub SaysFlag : List Row → Text → Bool → Type 0
-SaysFlag rows flag is_there = (is_there ≡ true) ↔ (first_of flag rows ≡ Some (codes "true"))
+abbrev pub SaysShellCall : List Row → ShellWord → Call → Type 0
+SaysShellCall rows word.Put (call.Put queue item) = GivesPlace rows queue × GivesItem rows item
+SaysShellCall rows word.Take (call.Take queue wait) = GivesPlace rows queue
+    × IsWait (value_row value.Wait rows) wait
+SaysShellCall rows word.Transfer (call.Transfer queue item wait) =
+    GivesPlace rows queue × GivesItem rows item × IsWait (value_row value.Wait rows) wait
+SaysShellCall rows word.Drain (call.Drain queue max) =
+    GivesPlace rows queue × GivesBetween 1 16 (value_row value.Max rows) max
+SaysShellCall rows word.Count (call.Count queue) = GivesPlace rows queue
+SaysShellCall rows word.Peek (call.Peek queue) = GivesPlace rows queue
+SaysShellCall rows word.Swap (call.Swap exchanger item wait) = GivesPlace rows exchanger × GivesItem rows item
+    × (given : Wait) × IsWait (value_row value.Wait rows) given × (wait ≡ swap_wait given)
+SaysShellCall rows _ _ = ⊥
 
 -- the rows say all of this
-pub record SaysAll (word : ShellWord) (rows : List Row) (c : ShellCall) : Type 0 where
-  pub call : SaysCall rows word c.call
+pub record SaysShell (word : ShellWord) (rows : List Row) (c : ShellCall) : Type 0 where
+  pub call : SaysShellCall rows word c.call
   pub connect : option_map (λ address. address.now) c.connect ≡ first_of (codes "connect") rows
   pub null : SaysFlag rows (codes "null") c.null
   pub json : SaysFlag rows (codes "json") c.json
   pub one_form : c.null ≡ true → c.json ≡ true → ⊥
 
--- after the program's name comes a command, and `clap` finds no fault in the words from there on, which say this
+-- after the program's name comes a command, and `clap` finds no fault in the words from there on, which say
+-- this
 pub record NamesCall (words : List Text) (c : ShellCall) : Type 0 where
   pub name : Text
   pub word : ShellWord
   pub rest : List Text
   pub words_are : words ≡ name ∷ shell_word word ∷ rest
   pub taken : fault_of (shell_app word) (shell_word word ∷ rest) ≡ []
-  pub says : SaysAll word (matches_of (shell_app word) (shell_word word ∷ rest)) c
+  pub says : SaysShell word (matches_of (shell_app word) (shell_word word ∷ rest)) c

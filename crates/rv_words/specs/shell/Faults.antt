@@ -3,14 +3,16 @@ use Rattle.std.specs.Prelude.{codes, List, ℕ, None, Some, [], ◌∷◌, ◌�
 use Rattle.clap.specs.Words.{IsAmong, Row, Text, fault_of, first_of, kind_of, matches_of}
 use Rattle.clap.specs.declared.error.Error.{Error}
 use Rattle.clap.specs.declared.error.kind.ErrorKind.{ErrorKind}
-use Rattle.clap.specs.declared.error.kind.ErrorKind.TheVariants.{DisplayHelp, OutOfMemory}
+use Rattle.clap.specs.declared.error.kind.ErrorKind.TheVariants.{OutOfMemory}
 use Rattle.rv_json.specs.Limits.{FitsItem}
 use Rattle.rv_lines.specs.Number.{WritesBetween}
 use Rattle.rv_words.specs.Durations.{WritesDuration}
-use Rattle.rv_words.specs.shell.Calls.{row_of}
+use Rattle.rv_words.specs.options.Faults.{status_of_kind}
+use Rattle.rv_words.specs.shell.Calls.{value_row}
 use Rattle.rv_words.specs.shell.Words.{shell_app, shell_word}
 use Rattle.rv_words.specs.declared.shell.fault.ShellFault.{ShellFault}
-use Rattle.rv_words.specs.declared.shell.fault.ShellFault.TheVariants.{Missing, NoMemory, Outside, Refused, TwoForms}
+use Rattle.rv_words.specs.declared.shell.fault.ShellFault.TheVariants.{Missing, NoMemory, Outside, Refused}
+use Rattle.rv_words.specs.declared.shell.fault.ShellFault.TheVariants.{TwoForms}
 use Rattle.rv_words.specs.declared.shell.value.ShellValue.{ShellValue}
 use Rattle.rv_words.specs.declared.shell.value.ShellValue.TheVariants as value
 use Rattle.rv_words.specs.declared.shell.word.ShellWord.{ShellWord}
@@ -25,37 +27,34 @@ IsNoValue value.Max text = (n : ℕ) → ¬ WritesBetween 1 16 text n
 -- a fault of words that `clap` accepts, by their rows
 abbrev pub IsFaultIn : List Row → ShellFault → Type 0
 IsFaultIn rows (Refused error) = ⊥
-IsFaultIn rows (Outside value given) = (row_of value rows ≡ Some given.now) × IsNoValue value given.now
-IsFaultIn rows (Missing value) = row_of value rows ≡ None
+IsFaultIn rows (Outside value given) = (value_row value rows ≡ Some given.now) × IsNoValue value given.now
+IsFaultIn rows (Missing value) = value_row value rows ≡ None
 IsFaultIn rows TwoForms = (first_of (codes "null") rows ≡ Some (codes "true"))
     × (first_of (codes "json") rows ≡ Some (codes "true"))
 IsFaultIn rows NoMemory = Unit {0}
 
--- a fault of the words from a command on: one that `clap` finds, a call for help included, or one of their rows
-abbrev pub IsFaultOf : ShellWord → List Text → ShellFault → Type 0
-IsFaultOf word own (Refused error) = IsAmong (kind_of error) (fault_of (shell_app word) own)
-IsFaultOf word own NoMemory = Unit {0}
-IsFaultOf word own fault =
+-- a fault of the words from a command on: one that `clap` finds, a call for help included, or one of their
+-- rows
+abbrev pub IsShellFault : ShellWord → List Text → ShellFault → Type 0
+IsShellFault word own (Refused error) = IsAmong (kind_of error) (fault_of (shell_app word) own)
+IsShellFault word own NoMemory = Unit {0}
+IsShellFault word own fault =
     (fault_of (shell_app word) own ≡ []) × IsFaultIn (matches_of (shell_app word) own) fault
 
 -- after the program's name comes a command, and the words from there on have this fault
-pub record HasFault (words : List Text) (fault : ShellFault) : Type 0 where
+pub record HasShellFault (words : List Text) (fault : ShellFault) : Type 0 where
   pub name : Text
   pub word : ShellWord
   pub rest : List Text
   pub words_are : words ≡ name ∷ shell_word word ∷ rest
-  pub fault_is : IsFaultOf word (shell_word word ∷ rest) fault
+  pub fault_is : IsShellFault word (shell_word word ∷ rest) fault
 
 -- the status of a program that ends with a fault
-abbrev pub status_of_kind : ErrorKind → ℕ
-status_of_kind DisplayHelp = 0
-status_of_kind _ = 2
-
-abbrev pub status_of : ShellFault → ℕ
-status_of (Refused error) = status_of_kind (kind_of error)
-status_of fault = 2
+abbrev pub shell_status : ShellFault → ℕ
+shell_status (Refused error) = status_of_kind (kind_of error)
+shell_status fault = 2
 
 -- the fault as which an error of this kind from `clap` is reported
-abbrev pub fault_by : ErrorKind → Error → ShellFault
-fault_by OutOfMemory error = NoMemory
-fault_by other error = Refused error
+abbrev pub shell_fault_by : ErrorKind → Error → ShellFault
+shell_fault_by OutOfMemory error = NoMemory
+shell_fault_by other error = Refused error

@@ -1,12 +1,14 @@
 -- The commands of a shell, as `clap` reads them.
-use Rattle.std.specs.Prelude.{codes, List, Some, true, [], ◌∷◌}
+use Rattle.std.specs.Prelude.{codes, false, List, Some, true, [], ◌∷◌}
 use Rattle.clap.specs.Words.{App, Rule, Text, new_app, new_rule}
-use Rattle.clap.specs.declared.builder.ArgAction.TheVariants.{Set, SetTrue}
+use Rattle.clap.specs.declared.builder.ArgAction.TheVariants.{Set}
 use Rattle.rv_words.specs.Listed.{with_rules}
+use Rattle.rv_words.specs.options.Words.{flag_rule, text_rule}
 use Rattle.rv_words.specs.declared.shell.value.ShellValue.{ShellValue}
 use Rattle.rv_words.specs.declared.shell.value.ShellValue.TheVariants as value
 use Rattle.rv_words.specs.declared.shell.word.ShellWord.{ShellWord}
-use Rattle.rv_words.specs.declared.shell.word.ShellWord.TheVariants.{Count, Drain, Peek, Put, Swap, Take, Transfer}
+use Rattle.rv_words.specs.declared.shell.word.ShellWord.TheVariants.{Count, Drain, Peek, Put, Swap, Take}
+use Rattle.rv_words.specs.declared.shell.word.ShellWord.TheVariants.{Transfer}
 
 -- the word of a command
 abbrev pub shell_word : ShellWord → Text
@@ -29,32 +31,21 @@ value_word value.Max = codes "max"
 abbrev pub place_rule : ShellValue → Rule
 place_rule value = record (new_rule (value_word value)) { action = Some Set; required = true }
 
--- `--NAME VALUE`, which may be left out
-abbrev pub option_rule : Text → Rule
-option_rule name = record (new_rule name) { long = Some name; action = Some Set; value_names = 1 }
-
--- `--NAME`, which has no value
-abbrev pub flag_rule : Text → Rule
-flag_rule name = record (new_rule name) { long = Some name; action = Some SetTrue }
-
 -- the options of every command
 abbrev pub common_rules : List Rule
-common_rules = option_rule (codes "connect") ∷ flag_rule (codes "null") ∷ flag_rule (codes "json") ∷ []
-
-abbrev pub max_rule : Rule
-max_rule = record (option_rule (codes "max")) { required = true }
+common_rules = text_rule (codes "connect") false ∷ flag_rule (codes "null") ∷ flag_rule (codes "json") ∷ []
 
 -- the rules of a command
 abbrev pub shell_rules : ShellWord → List Rule
 shell_rules Put = place_rule value.Place ∷ place_rule value.Item ∷ common_rules
-shell_rules Take = place_rule value.Place ∷ option_rule (codes "wait") ∷ common_rules
+shell_rules Take = place_rule value.Place ∷ text_rule (codes "wait") false ∷ common_rules
 shell_rules Transfer =
-    place_rule value.Place ∷ place_rule value.Item ∷ option_rule (codes "wait") ∷ common_rules
-shell_rules Drain = place_rule value.Place ∷ max_rule ∷ common_rules
+    place_rule value.Place ∷ place_rule value.Item ∷ text_rule (codes "wait") false ∷ common_rules
+shell_rules Drain = place_rule value.Place ∷ text_rule (codes "max") true ∷ common_rules
 shell_rules Count = place_rule value.Place ∷ common_rules
 shell_rules Peek = place_rule value.Place ∷ common_rules
 shell_rules Swap =
-    place_rule value.Place ∷ place_rule value.Item ∷ option_rule (codes "wait") ∷ common_rules
+    place_rule value.Place ∷ place_rule value.Item ∷ text_rule (codes "wait") false ∷ common_rules
 
 abbrev pub shell_app : ShellWord → App
 shell_app word = with_rules (new_app (shell_word word)) (shell_rules word)

@@ -1,7 +1,7 @@
 //! What is wrong with the words of a shell's command.
 ghost use Rattle.std.specs.Prelude.{◌≡◌};
 ghost use Rattle.clap.specs.Words.{kind_of};
-ghost use Rattle.rv_words.specs.shell.Faults.{fault_by, status_of};
+ghost use Rattle.rv_words.specs.shell.Faults.{shell_fault_by, shell_status};
 ghost use Rattle.rv_words.specs.declared.shell.fault.ShellFault.TheVariants as faults;
 
 use crate::shell::value::ShellValue;
@@ -38,7 +38,7 @@ impl<'a> From<AllocError> for ShellFault<'a> {
 }
 
 impl<'a> From<clap::Error> for ShellFault<'a> {
-    ghost from_gives = { λ error fault. fault ≡ fault_by (kind_of error) error };
+    ghost from_gives = { λ error fault. fault ≡ shell_fault_by (kind_of error) error };
 
     fn from(error: clap::Error) -> ShellFault<'a> {
         match error.kind() {
@@ -51,7 +51,7 @@ impl<'a> From<clap::Error> for ShellFault<'a> {
 impl ShellFault<'_> {
     /// The status of a program that ends with it: 0 if help was asked for, else 2.
     pub fn status(&self) -> u8
-        ensures { result ≡ status_of self.now }
+        ensures { result ≡ shell_status self.now }
     {
         match self {
             ShellFault::Refused(error) => match error.kind() {

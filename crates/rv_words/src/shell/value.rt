@@ -17,7 +17,7 @@ pub enum ShellValue {
 
 impl ShellValue {
     /// Its name among the words.
-    pub fn word(self) -> &'static str
+    pub(crate) fn word(self) -> &'static str
         ensures { result.now ≡ value_word self }
     {
         match self {
@@ -29,7 +29,7 @@ impl ShellValue {
     }
 
     /// The same with its dashes, as it is written.
-    pub fn shown(self) -> &'static str {
+    pub(crate) fn shown(self) -> &'static str {
         match self {
             ShellValue::Place => "QUEUE",
             ShellValue::Item => "ITEM",
@@ -39,7 +39,7 @@ impl ShellValue {
     }
 
     /// What it may be, for whoever wrote another value.
-    pub fn limits(self) -> &'static str {
+    pub(crate) fn limits(self) -> &'static str {
         match self {
             ShellValue::Place => "0 to 63",
             ShellValue::Item => "at most 512 bytes",

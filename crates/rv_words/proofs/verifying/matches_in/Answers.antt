@@ -31,5 +31,6 @@ returns-clause-found c = IfOk-weaker c.taken.result _ _ (λ m has. (has simple).
 
 pub returns-clause-bad : goal.returns-clause-bad
 returns-clause-bad c bad none =
-    c.taken.ensures.bad bad (ap (λ (a : App). fault_of a (texts c.args.own.now)) c.in_ok-listed_command.ensures.app
+    c.taken.ensures.bad bad (ap (λ (a : App). fault_of a (texts c.args.own.now))
+    c.in_ok-listed_command.ensures.app
     ∙ none)
