@@ -14,6 +14,7 @@ MODULES = [
     "commands.play",
     "commands.calls",
     "commands.ends",
+    "commands.shell",
     "commands.bodies",
     "commands.rows",
     "commands.audits",
