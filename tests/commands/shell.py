@@ -443,9 +443,14 @@ class ByScript(Case):
             ran, heard = self.at_a_script([[welcomes(), cut], again], "put", "3", "a")
             check_unknown(self, name, ran, key_of(heard[0][1]))
             self.check_equal(f"{name}: frames", [len(each) for each in heard], [2, len(answers)])
+
+    def test_ended_at_once(self) -> None:
+        """A request that is answered by the end of its epoch or incarnation didn't take place, or isn't known; it isn't asked again."""
         for name, refusal in [("an epoch that ended", refuses(2, current=2)), ("replaced", refuses(4, current=GREATEST))]:
             ran, heard = self.at_a_script([[welcomes(), refusal]], "put", "3", "a")
-            check_unknown(self, f"{name} at once", ran, key_of(heard[0][1]))
+            self.check_equal(f"{name}: printed, lines", (ran.printed, ran.said.count(b"\n")), (b"", 1))
+            self.check(f"{name}: status", ran.status in (NOT_KNOWN, REFUSED), ran)
+            self.check_equal(f"{name}: frames", [len(each) for each in heard], [2])
 
     def test_a_lesser_epoch(self) -> None:
         """An older server at the address isn't asked either."""
