@@ -1,4 +1,5 @@
-//! `rv put`, `rv take` and the other commands of a shell: one call each, over several connections if need be.
+//! `rv put`, `rv take` and the other commands of a shell: one call each, over several connections if need
+//! be.
 
 mod end;
 
@@ -19,10 +20,15 @@ use std::time::{Clock, Duration};
 // The server where none is named.
 const LOCAL: &str = "127.0.0.1:7411";
 
-// How often a lost server is tried again, and the milliseconds between two tries: a minute in all.
+// For how long a lost server is tried again, how often at most, and the milliseconds between two tries.
+const PATIENCE_SECONDS: u64 = 60;
+
 const TRIES: u64 = 300;
 
 const PAUSE_MILLIS: u64 = 200;
+
+// How often one that was never there is tried, since it may be starting: a second in all.
+const FIRST_TRIES: u64 = 5;
 
 /// Makes the call that the words say, prints its reply, and returns the status; `None` if they say none.
 pub(crate) fn run_shell(rt: &HostRuntime, words: &[&str]) -> Option<ExitCode> {
@@ -85,6 +91,9 @@ fn print_reply(rt: &HostRuntime, form: ReplyForm, key: Key, reply: Reply) -> Res
 // The reply of the call, which waits in pieces, each of which is a request in an incarnation of its own.
 fn answered(rt: &HostRuntime, asked: &ShellCall) -> Result<(Key, Reply), ShellEnd> {
     let server = server_of(rt, asked.connect)?;
+    if !is_plain(&server) {
+        return Err(ShellEnd::Address);
+    }
     let Some(lease) = take_lease(rt) else {
         return Err(ShellEnd::Leased);
     };
@@ -154,12 +163,17 @@ enum Tried {
 impl ShellClient<'_> {
     // The reply of the call, which is asked again over another connection where one is lost.
     fn settled(&mut self, call: &Call) -> Result<(Key, Reply), ShellEnd> {
+        let began = self.rt.monotonic().unwrap_or(Duration::ZERO);
         let mut earlier = None;
         for tried in 0..TRIES {
             let may_come = self.was_there || tried < FIRST_TRIES;
             match self.tried(call, earlier, may_come)? {
                 Tried::Settled(key, reply) => return Ok((key, reply)),
                 Tried::Lost(key) => earlier = key,
+            }
+            let now = self.rt.monotonic().unwrap_or(Duration::ZERO);
+            if now.saturating_sub(began) >= Duration::from_secs(PATIENCE_SECONDS) {
+                break;
             }
             thread::sleep(self.rt, Duration::from_millis(PAUSE_MILLIS));
         }
@@ -176,7 +190,7 @@ impl ShellClient<'_> {
         earlier: Option<Key>,
         may_come: bool,
     ) -> Result<Tried, ShellEnd> {
-        let Some(stream) = self.found()? else {
+        let Some(stream) = self.found() else {
             return if may_come {
                 Ok(Tried::Lost(earlier))
             } else {
@@ -192,6 +206,7 @@ impl ShellClient<'_> {
             CallEnd::Unsettled(key, _) => Ok(Tried::Lost(Some(key))),
             CallEnd::Unheard(_) => Ok(Tried::Lost(earlier)),
             CallEnd::Unwelcome(refusal) => self.refused(refusal, earlier),
+            CallEnd::Refused(key, Refusal::NoMemory) => Ok(Tried::Lost(Some(key))),
             CallEnd::Refused(_, refusal) => Err(told_of(refusal, earlier)),
             CallEnd::EpochEnded(key, _) | CallEnd::Replaced(key, _) | CallEnd::Moved(key, _) => {
                 Err(ShellEnd::NotKnown(key))
@@ -199,29 +214,27 @@ impl ShellClient<'_> {
         }
     }
 
-    // A hello was refused. Where the clock was set back, the next incarnation after the server's is taken.
+    // A hello was refused. Where the clock was set back, the next incarnation after the server's is taken; a
+    // server that lacks memory may have it later.
     fn refused(&mut self, refusal: Refusal, earlier: Option<Key>) -> Result<Tried, ShellEnd> {
         match (refusal, earlier) {
             (Refusal::OldIncarnation(current), None) => {
                 self.incarnation = current.saturating_add(1);
                 Ok(Tried::Lost(None))
             }
+            (Refusal::NoMemory, earlier) => Ok(Tried::Lost(earlier)),
             (other, earlier) => Err(told_of(other, earlier)),
         }
     }
 
     // A connection to the first of the servers that takes one.
-    fn found(&self) -> Result<Option<TcpStream>, ShellEnd> {
-        let servers = self.server.strip_prefix("rv://").unwrap_or(self.server);
-        for server in servers.split(',') {
-            if server.is_empty() || server.contains('/') || server.contains('?') {
-                return Err(ShellEnd::Address);
-            }
+    fn found(&self) -> Option<TcpStream> {
+        for server in servers_of(self.server).split(',') {
             if let Ok(stream) = connected(self.rt, server) {
-                return Ok(Some(stream));
+                return Some(stream);
             }
         }
-        Ok(None)
+        None
     }
 
     // Says hello and asks, over this connection.
@@ -240,6 +253,21 @@ impl ShellClient<'_> {
         let mut to = Sink::new(stream);
         Ok(ask_call(self.rt.alloc(), new, call, earlier, &mut from, &mut to))
     }
+}
+
+// The servers of an address, with commas between them.
+fn servers_of(address: &str) -> &str {
+    address.strip_prefix("rv://").unwrap_or(address)
+}
+
+// Whether an address has servers alone, each of which a connection can be tried to.
+fn is_plain(address: &str) -> bool {
+    for server in servers_of(address).split(',') {
+        if server.is_empty() || server.contains('/') || server.contains('?') {
+            return false;
+        }
+    }
+    true
 }
 
 // A refusal: what the server refused it didn't do, but what it was asked before it may have done.

@@ -74,6 +74,6 @@ fn write_unknown<W: fmt::Write>(f: &mut fmt::Formatter<W>, key: &Key) -> fmt::Re
     )?;
     write!(
         f,
-        "rv call --client {client} --incarnation {incarnation} --tries 6 --speak 2"
+        "rv call --connect ADDR --client {client} --incarnation {incarnation} --tries 6 --speak 2"
     )
 }
