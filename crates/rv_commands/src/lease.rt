@@ -13,8 +13,8 @@ const ADDRESSES: u128 = 4_194_304;
 
 const FACTOR: u128 = 2_654_435_761;
 
-/// The address at which a user leases a client number: a program has the
-/// number while it keeps a UDP socket bound there.
+/// The address at which a user leases a client number: a program has the number while it keeps a UDP socket
+/// bound there.
 pub fn lease_address(user: u32, client: u64) -> [u8; 4]
     ensures { result ≡ octets (lease_host user client) }
 {
@@ -28,7 +28,7 @@ pub fn lease_address(user: u32, client: u64) -> [u8; 4]
     ]
 }
 
-/// The port there.
+/// The port of that socket.
 pub fn lease_at(client: u64) -> u16
     ensures { result ≡ lease_port client }
 {

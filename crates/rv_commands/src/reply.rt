@@ -17,8 +17,8 @@ pub enum ReplyForm {
 }
 
 /// The text that is printed of a reply: the item alone, each item of a drain, `done`, `received` with the
-/// taker's client, incarnation and number, or the counts of items and of consumers. Of a reply that nothing
-/// took place it is empty, but for its body.
+/// taker's client, incarnation and number, or how many items and consumers wait. It is empty where nothing
+/// took place, except as JSON. Fails only if memory was refused.
 pub fn reply_text(
     alloc: Global,
     form: ReplyForm,
