@@ -64,7 +64,7 @@ def the_guide(program: str) -> None:
             begin_soon(folder / "bin")
         path = f"{folder / 'bin'}:{os.environ['PATH']}"
         environment = {**os.environ, "PATH": path, "PYTHONPATH": f"{folder}/clients/python/src"}
-        environment["PYTHONDONTWRITEBYTECODE"] = "1"
+        environment["PYTHONDONTWRITEBYTECODE"], environment["RV_SERVER"] = "1", f"127.0.0.1:{port}"
         environment["TMPDIR"], clients = str(folder / "bin"), numbers()
         environment["RV_CLIENTS"] = f"{clients[0]}-{clients[-1]}"
         there = {path.name for path in folder.iterdir()}

@@ -385,7 +385,6 @@ UNKNOWN: dict[str, list[Answer]] = {
 # What meets it at its one connection, the status, and how the line on standard error begins.
 AT_ONCE: dict[str, tuple[list[Answer], int, bytes]] = {
     "clients full": ([refuses(9)], REFUSED, b"refused 9: "),
-    "no memory for the hello": ([refuses(11)], REFUSED, b"refused 11: "),
     "another version": ([refuses(12, current=1)], REFUSED, b"refused 12: "),
     "an epoch that is full": ([welcomes(), refuses(10)], REFUSED, b"refused 10: "),
     "cancelled": ([welcomes(), replies(reply="cancelled")], CANCELLED, b""),
@@ -422,10 +421,11 @@ class ByScript(Case):
             self.check_equal(f"{name}: the same comes again", heard[0], heard[-1][: len(answers)])
 
     def test_no_memory(self) -> None:
-        """A request for which the server had no memory may have been taken in: it comes again too."""
-        ran, heard = self.at_a_script([[welcomes(), refuses(11)], [welcomes(), ITEM]], "take", "3", "--wait", "5s")
-        self.check_equal("what came of it", ran, done(b"a\n"))
-        self.check_equal("the same comes again", [each[-1] for each in heard], [heard[0][-1]] * 2)
+        """A request for which the server had no memory may have been taken in: it comes again too, and so does a hello."""
+        for name, refused_first in (("the request", [welcomes(), refuses(11)]), ("the hello", [refuses(11)])):
+            ran, heard = self.at_a_script([refused_first, [welcomes(), ITEM]], "take", "3", "--wait", "5s")
+            self.check_equal(f"{name}: what came of it", ran, done(b"a\n"))
+            self.check_equal(f"{name}: the same comes again", heard[1][: len(heard[0])], heard[0])
 
     def test_broken_often(self) -> None:
         """The same after several, of which some were cut before the request."""
@@ -463,7 +463,8 @@ class ByScript(Case):
         with Scripted([welcomes(), cut], [refuses(9)], [welcomes(), DONE]) as server:
             said = Shell(self.program, server.address).ran("put", "3", "a").said.decode()
             words = shlex.split(said[said.index("rv call ") :])
-            ran = subprocess.run([self.program, *words[1:], "--connect", server.address], env=NAMELESS, capture_output=True,
+            asked = [server.address if word == "ADDR" else word for word in words[1:]]
+            ran = subprocess.run([self.program, *asked], env=NAMELESS, capture_output=True,
                                  input=b'{"call":"put","item":"a","queue":3}\n', timeout=PATIENCE)
         self.check_equal("what was asked", server.heard[2:], server.heard[:1])
         self.check_equal("it is told", ran.stdout, replied(key_of(server.heard[0][1]), reply="done") + b"\n")
