@@ -164,6 +164,7 @@ STAGES = [idle_connections, stalled_connections, broken_connections, closed_for_
 def want_of_memory(program: str) -> None:
     """A connection that finds no memory, and turns in which lines of the account find none, have a number each."""
     with Counting(program) as host:
+        until("it answers", lambda: is_answering(host))
         host.system.be(growth=1)
         with closing(connected(host.port, 1)) as (peer,):
             peer.expect_end()
