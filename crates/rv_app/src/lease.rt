@@ -1,12 +1,43 @@
 //! A client number that no other program of this user has on this host, while its socket is bound.
 use rv_commands::{lease_address, lease_at};
+use rv_lines::read_identifier;
 use std::io::ErrorKind;
 use std::net::{Ipv4Addr, SocketAddrV4, UdpSocket};
 
-// The numbers from which one is leased.
-const FIRST: u64 = 1;
+/// The numbers from which one is leased, both ends included.
+#[derive(Clone, Copy)]
+pub(crate) struct ClientRange {
+    pub(crate) first: u64,
+    pub(crate) last: u64,
+}
 
-const LAST: u64 = 1_024;
+impl ClientRange {
+    /// The numbers that are leased where nothing else is said.
+    pub(crate) const USUAL: ClientRange = ClientRange {
+        first: 1,
+        last: 1_024,
+    };
+
+    /// This number alone.
+    pub(crate) fn only(client: u64) -> ClientRange {
+        ClientRange {
+            first: client,
+            last: client,
+        }
+    }
+
+    /// The numbers that a text `FIRST-LAST` names.
+    pub(crate) fn of_text(text: &str) -> Option<ClientRange> {
+        let (first, last) = text.split_once('-')?;
+        let first = read_identifier(first.as_bytes())?;
+        let last = read_identifier(last.as_bytes())?;
+        if first <= last {
+            Some(ClientRange { first, last })
+        } else {
+            None
+        }
+    }
+}
 
 /// A lease: it ends with the process, however that ends.
 #[derive(Drop)]
@@ -17,9 +48,9 @@ pub(crate) struct Lease {
 }
 
 /// Leases the least number that is free, if one is.
-pub(crate) fn take_lease(rt: &HostRuntime) -> Option<Lease> {
+pub(crate) fn take_lease(rt: &HostRuntime, range: ClientRange) -> Option<Lease> {
     let user = libc::geteuid();
-    for client in FIRST..=LAST {
+    for client in range.first..=range.last {
         if let Some(socket) = bound(rt, lease_address(user, client), lease_at(client)) {
             return Some(Lease {
                 client,

@@ -10,6 +10,7 @@ ghost use Rattle.std.specs.Prelude.{◌≤◌};
 ghost use Rattle.rv_text.specs.Limits.{FitsIdentifier};
 
 mod account;
+mod address;
 mod again;
 mod audit;
 mod ends;

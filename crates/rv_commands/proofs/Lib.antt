@@ -1,3 +1,4 @@
 -- The lemmas that the proofs of this crate share.
 pub mod Items
 pub mod OfCalls
+pub mod OfLines

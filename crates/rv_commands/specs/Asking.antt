@@ -19,6 +19,17 @@ abbrev pub refusal_in : Answer → Option Refusal
 refusal_in (answers.Refused refusal) = Some refusal
 refusal_in _ = None
 
+-- the key of a call's request after this end: the one that was asked, or else the earlier one
+abbrev pub key_asked : CallEnd → Option Key → Option Key
+key_asked (ends.Unwelcome refusal) earlier = earlier
+key_asked (ends.Unheard fault) earlier = earlier
+key_asked (ends.Replied key reply) earlier = Some key
+key_asked (ends.Refused key refusal) earlier = Some key
+key_asked (ends.Unsettled key fault) earlier = Some key
+key_asked (ends.EpochEnded key current) earlier = Some key
+key_asked (ends.Replaced key current) earlier = Some key
+key_asked (ends.Moved key epoch) earlier = Some key
+
 -- what an answer to a request says of it
 abbrev pub TellsOfRequest : Asking → Answer → CallEnd → Type 0
 TellsOfRequest asking answer (ends.Replied key reply) = (key ≡ asking.key) × Settles asking.key answer reply

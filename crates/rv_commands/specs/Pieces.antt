@@ -5,17 +5,12 @@ use Rattle.rv_text.specs.declared.call.Call.TheVariants as call
 use Rattle.rv_text.specs.declared.call.Wait.{Wait}
 use Rattle.rv_text.specs.declared.call.Wait.TheVariants.{Forever, Millis, Now}
 
--- the most milliseconds of a piece
-abbrev pub longest_piece : ℕ
-longest_piece = 10000
-
--- the first piece of a wait, and what is left after it: all pieces together are the wait
-abbrev pub pieces_of : Wait → Wait × Option Wait
-pieces_of Now = (Now, None)
-pieces_of (Millis n) =
-    if nat_lt longest_piece n then (Millis longest_piece, Some (Millis (n - longest_piece))) else
-    (Millis n, None)
-pieces_of Forever = (Millis longest_piece, Some Forever)
+-- the first piece of a wait, with so many milliseconds at most, and what is left after it: all pieces
+-- together are the wait
+abbrev pub pieces_of : Wait → ℕ → Wait × Option Wait
+pieces_of Now most = (Now, None)
+pieces_of (Millis n) most = if nat_lt most n then (Millis most, Some (Millis (n - most))) else (Millis n, None)
+pieces_of Forever most = (Millis most, Some Forever)
 
 -- the call with this wait, if both wait
 abbrev pub waiting : Call → Wait → Call

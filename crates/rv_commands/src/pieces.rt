@@ -5,19 +5,16 @@ ghost use Rattle.rv_commands.specs.Pieces.{pieces_of, waiting};
 use rv_text::{Call, NoMemory, Wait};
 use std::alloc::Global;
 
-/// The most milliseconds of a piece.
-pub const MAX_PIECE: u64 = 10_000;
-
-/// The first piece of a wait, and the wait that is left after it, if there is one.
-pub fn first_piece(wait: Wait) -> (Wait, Option<Wait>)
-    ensures { result ≡ pieces_of wait }
+/// The first piece of a wait, which is no longer than so many milliseconds, and the wait that is left after
+/// it, if there is one.
+pub fn first_piece(wait: Wait, most: u64) -> (Wait, Option<Wait>)
+    ensures { result ≡ pieces_of wait most }
 {
     match wait {
-        Wait::Millis(millis) if millis > MAX_PIECE => (
-            Wait::Millis(MAX_PIECE),
-            Some(Wait::Millis(millis - MAX_PIECE)),
-        ),
-        Wait::Forever => (Wait::Millis(MAX_PIECE), Some(Wait::Forever)),
+        Wait::Millis(millis) if millis > most => {
+            (Wait::Millis(most), Some(Wait::Millis(millis - most)))
+        }
+        Wait::Forever => (Wait::Millis(most), Some(Wait::Forever)),
         _ => (wait, None),
     }
 }

@@ -2,7 +2,7 @@
 ghost use Rattle.std.specs.Prelude.{◌≡◌, ◌++◌, IfOk, string_bytes};
 ghost use Rattle.rv_commands.specs.Printed.{ended_items, ended_text, key_words, printed, reply_status};
 
-use rv_text::{Answer, Item, Key, NoMemory, Reply, encode_answer};
+use rv_text::{Item, Key, NoMemory, Reply, encode_reply_in};
 use std::alloc::Global;
 
 /// How a reply is printed.
@@ -22,14 +22,14 @@ pub enum ReplyForm {
 pub fn reply_text(
     alloc: Global,
     form: ReplyForm,
-    key: Key,
-    reply: Reply,
+    key: &Key,
+    reply: &Reply,
 ) -> Result<String, NoMemory>
-    ensures { IfOk result (λ text. string_bytes text ≡ printed form key reply) }
+    ensures { IfOk result (λ text. string_bytes text ≡ printed form key.now reply.now) }
 {
     match form {
-        ReplyForm::Lines => text_ended(alloc, &reply, "\n"),
-        ReplyForm::Zeros => text_ended(alloc, &reply, "\0"),
+        ReplyForm::Lines => text_ended(alloc, reply, "\n"),
+        ReplyForm::Zeros => text_ended(alloc, reply, "\0"),
         ReplyForm::Json => body_line(alloc, key, reply),
     }
 }
@@ -49,10 +49,10 @@ pub fn status_of(reply: &Reply) -> u8
 }
 
 // The body of the reply's answer, and LF.
-fn body_line(alloc: Global, key: Key, reply: Reply) -> Result<String, NoMemory>
-    ensures { IfOk result (λ text. string_bytes text ≡ printed ReplyForm.Json key reply) }
+fn body_line(alloc: Global, key: &Key, reply: &Reply) -> Result<String, NoMemory>
+    ensures { IfOk result (λ text. string_bytes text ≡ printed ReplyForm.Json key.now reply.now) }
 {
-    let mut text = encode_answer(alloc, &Answer::Replied { key, reply })?;
+    let mut text = encode_reply_in(Vec::new(alloc), key, reply)?;
     text.push('\n')?;
     Ok(text)
 }

@@ -10,8 +10,8 @@ use Rattle.rv_words.specs.shell.Faults.{IsShellFault, shell_fault_by}
 use Rattle.rv_words.specs.shell.Words.{shell_app}
 use Rattle.rv_words.specs.declared.shell.fault.ShellFault.{ShellFault}
 use Rattle.rv_words.specs.declared.shell.word.ShellWord.{ShellWord}
-use Rattle.rv_words.specs.declared.shell.word.ShellWord.TheVariants.{Count, Drain, Peek, Put, Swap, Take}
-use Rattle.rv_words.specs.declared.shell.word.ShellWord.TheVariants.{Transfer}
+use Rattle.rv_words.specs.declared.shell.word.ShellWord.TheVariants.{Bench, Count, Drain, Peek, Put}
+use Rattle.rv_words.specs.declared.shell.word.ShellWord.TheVariants.{Swap, Take, Transfer}
 
 pub simple_and_free : (word : ShellWord) → is_simple_and_free (shell_app word) ≡ true
 unfolding clap_on_literals
@@ -22,6 +22,7 @@ simple_and_free Drain = refl
 simple_and_free Count = refl
 simple_and_free Peek = refl
 simple_and_free Swap = refl
+simple_and_free Bench = refl
 
 pub simple : (word : ShellWord) → is_simple (shell_app word) ≡ true
 unfolding clap_on_literals
@@ -32,6 +33,7 @@ simple Drain = refl
 simple Count = refl
 simple Peek = refl
 simple Swap = refl
+simple Bench = refl
 
 by_kind : (word : ShellWord) (own : List Text) (error : Error) (kind : ErrorKind)
     → (kind ≡ OutOfMemory) ⊎ IsAmong kind (fault_of (shell_app word) own) → kind ≡ kind_of error

@@ -9,8 +9,8 @@ use Rattle.rv_words.specs.Program.{command_app, rv_app}
 use Rattle.rv_words.specs.Verifying.{verify_app}
 use Rattle.rv_words.specs.shell.Words.{shell_app}
 use Rattle.rv_words.specs.declared.helping.HelpAnswer.{HelpAnswer}
-use Rattle.rv_words.specs.declared.shell.word.ShellWord.TheVariants.{Count, Drain, Peek, Put, Swap, Take}
-use Rattle.rv_words.specs.declared.shell.word.ShellWord.TheVariants.{Transfer}
+use Rattle.rv_words.specs.declared.shell.word.ShellWord.TheVariants.{Bench, Count, Drain, Peek, Put}
+use Rattle.rv_words.specs.declared.shell.word.ShellWord.TheVariants.{Swap, Take, Transfer}
 
 -- the commands that read their words themselves, but for `host`: `record --to FILE`, as help shows it,
 -- `version`, `verify`, and those of a shell
@@ -19,7 +19,7 @@ other_apps =
     command_app (codes "record") (codes "to" ∷ [])
     ∷ command_app (codes "version") []
     ∷ verify_app
-    ∷ map shell_app (Put ∷ Take ∷ Transfer ∷ Drain ∷ Count ∷ Peek ∷ Swap ∷ [])
+    ∷ map shell_app (Put ∷ Take ∷ Transfer ∷ Drain ∷ Count ∷ Peek ∷ Swap ∷ Bench ∷ [])
 
 -- the program with all its commands
 abbrev pub help_app : App

@@ -9,7 +9,7 @@ use crate::fault::CommandFault;
 use crate::listed::{ListedCommand, ListedOption, NEEDED, with_commands};
 use crate::options::host_words;
 use crate::program::program;
-use crate::shell::{COUNT, DRAIN, PEEK, PUT, SWAP, TAKE, TRANSFER};
+use crate::shell::{BENCH, COUNT, DRAIN, PEEK, PUT, SWAP, TAKE, TRANSFER};
 use crate::verifying::VERIFY;
 use crate::words::words_from;
 use clap::error::ErrorKind;
@@ -120,4 +120,5 @@ const OTHERS: &[ListedCommand] = &[
     COUNT,
     PEEK,
     SWAP,
+    BENCH,
 ];

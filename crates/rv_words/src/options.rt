@@ -1,11 +1,11 @@
 //! The options of the long-running server, `rv host`: what its words name, or what is wrong with them.
-ghost use Rattle.std.specs.Prelude.{◌≡◌, ◌↔◌, [], codes, IfErr, IfOk, IsTrue, None, Some, is_some};
+ghost use Rattle.std.specs.Prelude.{◌≡◌, ◌↔◌, [], codes, IfErr, IfOk, IsTrue, List, None, Some, is_some};
 ghost use Rattle.std.specs.Prelude.{option_map, true};
 ghost use Rattle.clap.specs.Walk.{texts};
-ghost use Rattle.clap.specs.Words.{fault_of, first_of, found_of, matches_of, rows_of};
+ghost use Rattle.clap.specs.Words.{Row, fault_of, first_of, found_of, matches_of, rows_of};
 ghost use Rattle.rv_words.specs.options.Epochs.{FitsRule, SaysRule};
 ghost use Rattle.rv_words.specs.options.Faults.{IsFault, IsFaultOf, WantsStore};
-ghost use Rattle.rv_words.specs.options.Numbers.{Fits, GivesNumber, given_for};
+ghost use Rattle.rv_words.specs.options.Numbers.{Fits, GivesNumber, IsAlwaysThere, WritesWithin, given_for};
 ghost use Rattle.rv_words.specs.options.Options.{FitOptions, NamesOptions, SaysOptions};
 ghost use Rattle.rv_words.specs.options.Words.{host_app};
 
@@ -122,13 +122,13 @@ fn epoch_of<'a>(given: &ArgMatches<'a>) -> Result<EpochRule, HostFault<'a>>
     ensures fits { IfOk result FitsRule }
     ensures fault { IfErr result (IsFaultOf (rows_of (found_of given.now))) }
 {
-    let exact = text_of(given, HostNumber::Epoch.word()).is_some();
-    let above = text_of(given, HostNumber::EpochAbove.word()).is_some();
+    let exact = text_of(given, HostNumber::Epoch.word());
+    let above = text_of(given, HostNumber::EpochAbove.word());
     match (exact, above) {
-        (true, true) => Err(HostFault::TwoEpochs),
-        (true, false) => Ok(EpochRule::Exactly(number_of(given, HostNumber::Epoch)?)),
-        (false, true) => Ok(EpochRule::Above(number_of(given, HostNumber::EpochAbove)?)),
-        (false, false) => Ok(EpochRule::Clock),
+        (Some(_), Some(_)) => Err(HostFault::TwoEpochs),
+        (Some(text), None) => Ok(EpochRule::Exactly(number_in(text, HostNumber::Epoch)?)),
+        (None, Some(text)) => Ok(EpochRule::Above(number_in(text, HostNumber::EpochAbove)?)),
+        (None, None) => Ok(EpochRule::Clock),
     }
 }
 
@@ -165,15 +165,26 @@ fn store_of<'a>(given: &ArgMatches<'a>) -> Result<Option<&'a str>, HostFault<'a>
     }
 }
 
-// The number that an option's value writes.
+// The number that the value of an option writes, which is always there.
 fn number_of<'a>(given: &ArgMatches<'a>, number: HostNumber) -> Result<u64, HostFault<'a>>
+    requires { IsAlwaysThere number }
     ensures ok { IfOk result (GivesNumber number (rows_of (found_of given.now))) }
     ensures fits { IfOk result (Fits number) }
     ensures fault { IfErr result (IsFaultOf (rows_of (found_of given.now))) }
 {
-    let Some(text) = text_of(given, number.word()) else {
-        return Err(HostFault::Missing(number.word()));
-    };
+    match text_of(given, number.word()) {
+        Some(text) => number_in(text, number),
+        None => Err(HostFault::Missing(number.word())),
+    }
+}
+
+// The number that a value writes.
+fn number_in<'a>(text: &'a str, number: HostNumber) -> Result<u64, HostFault<'a>>
+    ensures ok { IfOk result (WritesWithin number text.entry.now) }
+    ensures fits { IfOk result (Fits number) }
+    ensures fault { (rows : List Row) → given_for number rows ≡ Some text.entry.now
+        → IfErr result (IsFaultOf rows) }
+{
     match number.read(text) {
         Some(n) => Ok(n),
         None => Err(HostFault::Outside {

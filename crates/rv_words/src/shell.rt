@@ -1,17 +1,17 @@
 //! Reads the words of a shell's commands, such as `rv take 3`, each of which makes one call.
-ghost use Rattle.std.specs.Prelude.{◌≡◌, [], ◌∷◌, IfErr, IfOk, IfSome, List, None};
+ghost use Rattle.std.specs.Prelude.{◌≡◌, [], ◌∷◌, IfErr, IfOk, IfSome, List, None, ℕ};
 ghost use Rattle.clap.specs.Words.{Text, fault_of, found_of, matches_of, rows_of};
 ghost use Rattle.clap.specs.Walk.{texts};
 ghost use Rattle.rv_json.specs.Limits.{FitsItem};
 ghost use Rattle.rv_text.specs.Limits.{FitsCall, FitsWait};
 ghost use Rattle.rv_words.specs.Beginning.{BeginWithout};
 ghost use Rattle.rv_words.specs.command.Command.{GivesBetween};
-ghost use Rattle.rv_words.specs.shell.Calls.{GivesItem, GivesPlace, IsWait, NamesCall, SaysShell};
-ghost use Rattle.rv_words.specs.shell.Calls.{SaysShellCall, swap_wait, value_row};
+ghost use Rattle.rv_words.specs.shell.Calls.{GivesItem, GivesPlace, IsWait, NamesCall, PutsLines};
+ghost use Rattle.rv_words.specs.shell.Calls.{SaysShell, SaysShellCall, swap_wait, value_row};
 ghost use Rattle.rv_words.specs.shell.Faults.{HasShellFault, IsFaultIn, IsShellFault};
 ghost use Rattle.rv_words.specs.declared.shell.fault.ShellFault.TheVariants.{Outside};
 ghost use Rattle.rv_words.specs.declared.shell.value.ShellValue.TheVariants as value;
-ghost use Rattle.rv_words.specs.shell.Words.{shell_app, shell_word};
+ghost use Rattle.rv_words.specs.shell.Words.{NeedsValue, shell_app, shell_word};
 
 mod fault;
 mod value;
@@ -27,12 +27,14 @@ use rv_text::{Call, Item, Wait};
 use std::alloc::Global;
 pub use value::ShellValue;
 pub use word::ShellWord;
-pub(crate) use word::{COUNT, DRAIN, PEEK, PUT, SWAP, TAKE, TRANSFER};
+pub(crate) use word::{BENCH, COUNT, DRAIN, PEEK, PUT, SWAP, TAKE, TRANSFER};
 
 /// What the words of a shell's command say.
 #[derive(Drop)]
 pub struct ShellCall<'a> {
-    /// The call that it makes.
+    /// The command.
+    pub word: ShellWord,
+    /// The call that it makes; of a bench, the one that it makes first.
     pub call: Call,
     /// The address of the server, as it was written, if it is named.
     pub connect: Option<&'a str>,
@@ -40,6 +42,20 @@ pub struct ShellCall<'a> {
     pub null: bool,
     /// Whether the reply's body is printed.
     pub json: bool,
+}
+
+impl ShellCall<'_> {
+    /// The queue into which each line of standard input is put, where that is what it does: the item of its
+    /// put is one dash.
+    pub fn puts_lines(&self) -> Option<u64>
+        ensures some { IfSome result (PutsLines self.now) }
+        ensures none { result ≡ None → (queue : ℕ) → ¬ PutsLines self.now queue }
+    {
+        match &self.call {
+            Call::Put { queue, item } if item.as_str() == "-" => Some(*queue),
+            _ => None,
+        }
+    }
 }
 
 /// The call that the words name, the program's name first, as `clap` reads them; `None` if the word after
@@ -114,7 +130,7 @@ fn said_by<'a>(
 ) -> Result<ShellCall<'a>, ShellFault<'a>>
     ensures ok { IfOk result (SaysShell word (rows_of (found_of given.now))) }
     ensures fits { IfOk result (λ c. FitsCall c.call) }
-    ensures fault { IfErr result (IsFaultIn (rows_of (found_of given.now))) }
+    ensures fault { IfErr result (IsFaultIn word (rows_of (found_of given.now))) }
 {
     let null = is_given(given, "null");
     let json = is_given(given, "json");
@@ -122,6 +138,7 @@ fn said_by<'a>(
         return Err(ShellFault::TwoForms);
     }
     Ok(ShellCall {
+        word,
         call: call_of(alloc, word, given)?,
         connect: text_of(given, "connect"),
         null,
@@ -137,55 +154,57 @@ fn call_of<'a>(
 ) -> Result<Call, ShellFault<'a>>
     ensures ok { IfOk result (SaysShellCall (rows_of (found_of given.now)) word) }
     ensures fits { IfOk result FitsCall }
-    ensures fault { IfErr result (IsFaultIn (rows_of (found_of given.now))) }
+    ensures fault { IfErr result (IsFaultIn word (rows_of (found_of given.now))) }
 {
-    let place = place_of(given)?;
+    let place = place_of(word, given)?;
     match word {
         ShellWord::Put => Ok(Call::Put {
             queue: place,
-            item: item_of(alloc, given)?,
+            item: item_of(alloc, word, given)?,
         }),
         ShellWord::Take => Ok(Call::Take {
             queue: place,
-            wait: wait_of(given)?,
+            wait: wait_of(word, given)?,
         }),
         ShellWord::Transfer => Ok(Call::Transfer {
             queue: place,
-            item: item_of(alloc, given)?,
-            wait: wait_of(given)?,
+            item: item_of(alloc, word, given)?,
+            wait: wait_of(word, given)?,
         }),
         ShellWord::Drain => Ok(Call::Drain {
             queue: place,
-            max: max_of(given)?,
+            max: max_of(word, given)?,
         }),
-        ShellWord::Count => Ok(Call::Count { queue: place }),
+        ShellWord::Count | ShellWord::Bench => Ok(Call::Count { queue: place }),
         ShellWord::Peek => Ok(Call::Peek { queue: place }),
         ShellWord::Swap => Ok(Call::Swap {
             exchanger: place,
-            item: item_of(alloc, given)?,
-            wait: swap_wait(wait_of(given)?),
+            item: item_of(alloc, word, given)?,
+            wait: swap_wait(wait_of(word, given)?),
         }),
     }
 }
 
 // The queue or exchanger that is given.
-fn place_of<'a>(given: &ArgMatches<'a>) -> Result<u64, ShellFault<'a>>
-    ensures ok { IfOk result (GivesPlace (rows_of (found_of given.now))) }
-    ensures fault { IfErr result (IsFaultIn (rows_of (found_of given.now))) }
+fn place_of<'a>(word: ShellWord, given: &ArgMatches<'a>) -> Result<u64, ShellFault<'a>>
+    ensures ok { IfOk result (GivesPlace (rows_of (found_of given.now)) word) }
+    ensures fault { IfErr result (IsFaultIn word (rows_of (found_of given.now))) }
 {
-    let Some(text) = text_of(given, ShellValue::Place.word()) else {
-        return Err(ShellFault::Missing(ShellValue::Place));
+    let value = word.place();
+    let Some(text) = text_of(given, value.word()) else {
+        return Err(ShellFault::Missing(value));
     };
     match read_between(text.as_bytes(), 0, 63) {
         Some(place) => Ok(place),
-        None => Err(outside(ShellValue::Place, text)),
+        None => Err(outside(value, text)),
     }
 }
 
 // How many items are taken at most.
-fn max_of<'a>(given: &ArgMatches<'a>) -> Result<u64, ShellFault<'a>>
+fn max_of<'a>(word: ShellWord, given: &ArgMatches<'a>) -> Result<u64, ShellFault<'a>>
+    requires { NeedsValue word value.Max }
     ensures ok { IfOk result (GivesBetween 1 16 (value_row value.Max (rows_of (found_of given.now)))) }
-    ensures fault { IfErr result (IsFaultIn (rows_of (found_of given.now))) }
+    ensures fault { IfErr result (IsFaultIn word (rows_of (found_of given.now))) }
 {
     let Some(text) = text_of(given, ShellValue::Max.word()) else {
         return Err(ShellFault::Missing(ShellValue::Max));
@@ -197,10 +216,15 @@ fn max_of<'a>(given: &ArgMatches<'a>) -> Result<u64, ShellFault<'a>>
 }
 
 // The item that is given.
-fn item_of<'a>(alloc: Global, given: &ArgMatches<'a>) -> Result<Item, ShellFault<'a>>
+fn item_of<'a>(
+    alloc: Global,
+    word: ShellWord,
+    given: &ArgMatches<'a>,
+) -> Result<Item, ShellFault<'a>>
+    requires { NeedsValue word value.Item }
     ensures ok { IfOk result (GivesItem (rows_of (found_of given.now))) }
     ensures fits { IfOk result FitsItem }
-    ensures fault { IfErr result (IsFaultIn (rows_of (found_of given.now))) }
+    ensures fault { IfErr result (IsFaultIn word (rows_of (found_of given.now))) }
 {
     let Some(text) = text_of(given, ShellValue::Item.word()) else {
         return Err(ShellFault::Missing(ShellValue::Item));
@@ -214,10 +238,10 @@ fn item_of<'a>(alloc: Global, given: &ArgMatches<'a>) -> Result<Item, ShellFault
 }
 
 // The wait that is given.
-fn wait_of<'a>(given: &ArgMatches<'a>) -> Result<Wait, ShellFault<'a>>
+fn wait_of<'a>(word: ShellWord, given: &ArgMatches<'a>) -> Result<Wait, ShellFault<'a>>
     ensures ok { IfOk result (IsWait (value_row value.Wait (rows_of (found_of given.now)))) }
     ensures fits { IfOk result FitsWait }
-    ensures fault { IfErr result (IsFaultIn (rows_of (found_of given.now))) }
+    ensures fault { IfErr result (IsFaultIn word (rows_of (found_of given.now))) }
 {
     let Some(text) = text_of(given, ShellValue::Wait.word()) else {
         return Ok(Wait::Forever);

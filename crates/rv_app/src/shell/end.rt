@@ -1,5 +1,6 @@
 //! Why a command of a shell has no reply, and the status that tells it.
-use rv_text::{Key, Refusal};
+use crate::lease::ClientRange;
+use rv_text::{Key, Refusal, Version};
 use std::alloc::AllocError;
 use std::fmt;
 
@@ -8,18 +9,30 @@ use std::fmt;
 pub(crate) enum ShellEnd {
     /// No server listens at the address.
     NoServer,
-    /// The address isn't one that a command takes.
-    Address,
+    /// The address, or a word of the environment, isn't one that a command takes, which this line tells.
+    Words(String),
+    /// The line of this number is no item, and it and those after it weren't put.
+    NoItem(u64),
+    /// Standard input can't be read.
+    Unread,
     /// The server refused the call, and did nothing.
     Refused(Refusal),
-    /// What came of the request of this key isn't known.
-    NotKnown(Key),
-    /// Each client number is leased.
-    Leased,
+    /// What came of the request of this key, in messages of this version, isn't known.
+    NotKnown(Key, Version),
+    /// Each of these client numbers is leased.
+    Leased(ClientRange),
     /// The clock gives no incarnation.
     Clock,
     /// Standard output didn't take the reply.
     Unprinted,
+    /// The record lacks the line of a reply, which this line tells.
+    Unrecorded(String),
+    /// Items or consumers wait at the queue of this number.
+    Busy(u64),
+    /// A take of the bench got this item, which was somebody else's.
+    NotOwn(String),
+    /// A call of the bench came to nothing, in this queue.
+    Broken(u64),
     /// Memory was refused.
     NoMemory,
 }
@@ -28,8 +41,8 @@ impl ShellEnd {
     /// The exit status.
     pub(crate) fn status(&self) -> u8 {
         match self {
-            ShellEnd::Address => 2,
-            ShellEnd::NotKnown(_) => 6,
+            ShellEnd::Words(_) | ShellEnd::NoItem(_) | ShellEnd::Busy(_) => 2,
+            ShellEnd::NotKnown(_, _) => 6,
             ShellEnd::Refused(_) => 7,
             _ => 1,
         }
@@ -46,23 +59,44 @@ impl fmt::Display for ShellEnd {
     fn fmt<W: fmt::Write>(&self, f: &mut fmt::Formatter<W>) -> fmt::Result {
         match self {
             ShellEnd::NoServer => f.write_str("no server: none listens at the address"),
-            ShellEnd::Address => f.write_str(
-                "a server is HOST:PORT or rv://HOST:PORT, or several with commas between them",
-            ),
+            ShellEnd::Words(text) | ShellEnd::Unrecorded(text) => f.write_str(text),
+            ShellEnd::NoItem(line) => {
+                write!(f, "line {line}: no item, which is at most 512 bytes of UTF-8")
+            }
+            ShellEnd::Unread => f.write_str("standard input can't be read"),
             ShellEnd::Refused(refusal) => write!(f, "refused {}: {refusal}", refusal.code()),
-            ShellEnd::NotKnown(key) => write_unknown(f, key),
-            ShellEnd::Leased => f.write_str(
-                "each client number from 1 to 1024 is leased on this host",
+            ShellEnd::NotKnown(key, version) => write_unknown(f, key, *version),
+            ShellEnd::Leased(range) => write!(
+                f,
+                "each client number from {} to {} is leased on this host",
+                range.first,
+                range.last
             ),
             ShellEnd::Clock => f.write_str("the clock gives no incarnation"),
             ShellEnd::Unprinted => f.write_str("standard output didn't take the reply"),
+            ShellEnd::Busy(queue) => write!(f, "QUEUE {queue}: items or consumers wait there"),
+            ShellEnd::NotOwn(item) => {
+                write!(f, "a take got an item that somebody else put meanwhile: {item}")
+            }
+            ShellEnd::Broken(queue) => {
+                write!(f, "the server was lost, or didn't do as it was asked; ")?;
+                write!(f, "items `rv bench` may be left in queue {queue}")
+            }
             ShellEnd::NoMemory => f.write_str("no memory"),
         }
     }
 }
 
 // Writes the key of a request whose outcome isn't known, and how it is asked again.
-fn write_unknown<W: fmt::Write>(f: &mut fmt::Formatter<W>, key: &Key) -> fmt::Result {
+fn write_unknown<W: fmt::Write>(
+    f: &mut fmt::Formatter<W>,
+    key: &Key,
+    version: Version,
+) -> fmt::Result {
+    let speak = match version {
+        Version::One => 1,
+        Version::Two => 2,
+    };
     let (client, incarnation, epoch) = (key.client, key.incarnation, key.epoch);
     write!(
         f,
@@ -74,6 +108,6 @@ fn write_unknown<W: fmt::Write>(f: &mut fmt::Formatter<W>, key: &Key) -> fmt::Re
     )?;
     write!(
         f,
-        "rv call --connect ADDR --client {client} --incarnation {incarnation} --tries 6 --speak 2"
+        "rv call --connect ADDR --client {client} --incarnation {incarnation} --tries 6 --speak {speak}"
     )
 }

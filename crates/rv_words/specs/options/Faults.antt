@@ -5,11 +5,17 @@ use Rattle.clap.specs.declared.error.Error.{Error}
 use Rattle.clap.specs.declared.error.kind.ErrorKind.{ErrorKind}
 use Rattle.clap.specs.declared.error.kind.ErrorKind.TheVariants.{DisplayHelp, OutOfMemory}
 use Rattle.rv_words.specs.options.Words.{host_app}
-use Rattle.rv_words.specs.options.Numbers.{WritesWithin, given_for}
+use Rattle.rv_words.specs.options.Numbers.{IsAlwaysThere, WritesWithin, given_for, option_word}
 use Rattle.rv_words.specs.declared.options.fault.HostFault.{HostFault}
 use Rattle.rv_words.specs.declared.options.fault.HostFault.TheVariants.{Missing, NoMemory, Outside, Refused}
 use Rattle.rv_words.specs.declared.options.fault.HostFault.TheVariants.{NoStore, TwoAccounts, TwoEpochs}
+use Rattle.rv_words.specs.declared.options.number.HostNumber.{HostNumber}
 use Rattle.rv_words.specs.declared.options.number.HostNumber.TheVariants as number
+
+-- there has to be an address to listen at, and each number but those of the epoch
+abbrev pub IsNeeded : Text → Type 0
+IsNeeded word = (word ≡ codes "listen")
+    ⊎ ((number : HostNumber) × IsAlwaysThere number × (word ≡ option_word number))
 
 -- the flags that want a store
 abbrev pub WantsStore : Text → Type 0
@@ -20,7 +26,7 @@ abbrev pub IsFaultOf : List Row → HostFault → Type 0
 IsFaultOf rows (Refused error) = ⊥
 IsFaultOf rows (Outside number given) = (given_for number rows ≡ Some given.now)
     × ((n : ℕ) → ¬ WritesWithin number given.now n)
-IsFaultOf rows (Missing word) = first_of word.now rows ≡ None
+IsFaultOf rows (Missing word) = IsNeeded word.now × (first_of word.now rows ≡ None)
 IsFaultOf rows TwoEpochs = (is_some (given_for number.Epoch rows) ≡ true)
     × (is_some (given_for number.EpochAbove rows) ≡ true)
 IsFaultOf rows TwoAccounts = (is_some (first_of (codes "account") rows) ≡ true)

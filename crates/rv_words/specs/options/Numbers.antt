@@ -18,6 +18,12 @@ option_word number.Memory = codes "memory"
 option_word number.Idle = codes "idle"
 option_word number.Stall = codes "stall"
 
+-- a number has a default; that of an epoch is given or not
+abbrev pub IsAlwaysThere : HostNumber → Type 0
+IsAlwaysThere number.Epoch = ⊥
+IsAlwaysThere number.EpochAbove = ⊥
+IsAlwaysThere _ = Unit {0}
+
 abbrev pub least_of : HostNumber → ℕ
 least_of number = 1
 

@@ -9,7 +9,7 @@ use Rattle.rv_text.specs.declared.call.Wait.TheVariants.{Forever, Millis, Now}
 use Rattle.rv_words.specs.command.Command.{GivesBetween}
 use Rattle.rv_words.specs.Durations.{WritesDuration}
 use Rattle.rv_words.specs.options.Options.{SaysFlag}
-use Rattle.rv_words.specs.shell.Words.{shell_app, shell_word, value_word}
+use Rattle.rv_words.specs.shell.Words.{place_value, shell_app, shell_word, value_word}
 use Rattle.rv_words.specs.declared.shell.ShellCall.{ShellCall}
 use Rattle.rv_words.specs.declared.shell.value.ShellValue.{ShellValue}
 use Rattle.rv_words.specs.declared.shell.value.ShellValue.TheVariants as value
@@ -21,8 +21,8 @@ abbrev pub value_row : ShellValue → List Row → Option Text
 value_row value rows = first_of (value_word value) rows
 
 -- the queue or exchanger that is given
-abbrev pub GivesPlace : List Row → ℕ → Type 0
-GivesPlace rows place = GivesBetween 0 63 (value_row value.Place rows) place
+abbrev pub GivesPlace : List Row → ShellWord → ℕ → Type 0
+GivesPlace rows word place = GivesBetween 0 63 (value_row (place_value word) rows) place
 
 -- the item that is given
 abbrev pub GivesItem : List Row → Text → Type 0
@@ -40,23 +40,30 @@ abbrev pub swap_wait : Wait → Wait
 swap_wait Now = Millis 0
 swap_wait wait = wait
 
--- the rows of this command say the call
+-- the rows of this command say the call; of a bench it is the one that is asked first
 abbrev pub SaysShellCall : List Row → ShellWord → Call → Type 0
-SaysShellCall rows word.Put (call.Put queue item) = GivesPlace rows queue × GivesItem rows item
-SaysShellCall rows word.Take (call.Take queue wait) = GivesPlace rows queue
+SaysShellCall rows word.Put (call.Put queue item) = GivesPlace rows word.Put queue × GivesItem rows item
+SaysShellCall rows word.Take (call.Take queue wait) = GivesPlace rows word.Take queue
     × IsWait (value_row value.Wait rows) wait
 SaysShellCall rows word.Transfer (call.Transfer queue item wait) =
-    GivesPlace rows queue × GivesItem rows item × IsWait (value_row value.Wait rows) wait
+    GivesPlace rows word.Transfer queue × GivesItem rows item × IsWait (value_row value.Wait rows) wait
 SaysShellCall rows word.Drain (call.Drain queue max) =
-    GivesPlace rows queue × GivesBetween 1 16 (value_row value.Max rows) max
-SaysShellCall rows word.Count (call.Count queue) = GivesPlace rows queue
-SaysShellCall rows word.Peek (call.Peek queue) = GivesPlace rows queue
-SaysShellCall rows word.Swap (call.Swap exchanger item wait) = GivesPlace rows exchanger × GivesItem rows item
+    GivesPlace rows word.Drain queue × GivesBetween 1 16 (value_row value.Max rows) max
+SaysShellCall rows word.Count (call.Count queue) = GivesPlace rows word.Count queue
+SaysShellCall rows word.Peek (call.Peek queue) = GivesPlace rows word.Peek queue
+SaysShellCall rows word.Bench (call.Count queue) = GivesPlace rows word.Bench queue
+SaysShellCall rows word.Swap (call.Swap exchanger item wait) = GivesPlace rows word.Swap exchanger
+    × GivesItem rows item
     × (given : Wait) × IsWait (value_row value.Wait rows) given × (wait ≡ swap_wait given)
 SaysShellCall rows _ _ = ⊥
 
+-- a put whose item is one dash stands for the lines of standard input
+abbrev pub PutsLines : ShellCall → ℕ → Type 0
+PutsLines c queue = c.call ≡ call.Put queue (codes "-")
+
 -- the rows say all of this
 pub record SaysShell (word : ShellWord) (rows : List Row) (c : ShellCall) : Type 0 where
+  pub command : c.word ≡ word
   pub call : SaysShellCall rows word c.call
   pub connect : option_map (λ address. address.now) c.connect ≡ first_of (codes "connect") rows
   pub null : SaysFlag rows (codes "null") c.null

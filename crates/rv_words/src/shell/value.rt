@@ -5,8 +5,10 @@ ghost use Rattle.rv_words.specs.shell.Words.{value_word};
 /// A value of a shell's command.
 #[derive(Clone, Copy)]
 pub enum ShellValue {
-    /// The queue or exchanger, 0 to 63.
+    /// The queue, 0 to 63.
     Place,
+    /// The exchanger, 0 to 63.
+    Exchanger,
     /// The item, at most 512 bytes.
     Item,
     /// How long the call waits, at most a day.
@@ -22,6 +24,7 @@ impl ShellValue {
     {
         match self {
             ShellValue::Place => "QUEUE",
+            ShellValue::Exchanger => "EXCHANGER",
             ShellValue::Item => "ITEM",
             ShellValue::Wait => "wait",
             ShellValue::Max => "max",
@@ -32,6 +35,7 @@ impl ShellValue {
     pub(crate) fn shown(self) -> &'static str {
         match self {
             ShellValue::Place => "QUEUE",
+            ShellValue::Exchanger => "EXCHANGER",
             ShellValue::Item => "ITEM",
             ShellValue::Wait => "--wait",
             ShellValue::Max => "--max",
@@ -41,7 +45,7 @@ impl ShellValue {
     /// What it may be, for whoever wrote another value.
     pub(crate) fn limits(self) -> &'static str {
         match self {
-            ShellValue::Place => "0 to 63",
+            ShellValue::Place | ShellValue::Exchanger => "0 to 63",
             ShellValue::Item => "at most 512 bytes",
             ShellValue::Wait => "a number and ms, s, m or h, at most a day",
             ShellValue::Max => "1 to 16",

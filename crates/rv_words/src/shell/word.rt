@@ -1,9 +1,12 @@
 //! The commands of a shell, as `clap` reads them.
 ghost use Rattle.std.specs.Prelude.{◌≡◌, IfSome, None};
 ghost use Rattle.rv_words.specs.Listed.{listed_app};
-ghost use Rattle.rv_words.specs.shell.Words.{shell_app, shell_word};
+ghost use Rattle.clap.specs.Words.{Text};
+ghost use Rattle.rv_words.specs.shell.Faults.{IsNoPlace, IsNoValue};
+ghost use Rattle.rv_words.specs.shell.Words.{NeedsValue, place_value, shell_app, shell_word};
 
 use crate::listed::{FLAG, ListedCommand, ListedOption, NEEDED, OPTIONAL};
+use crate::shell::value::ShellValue;
 
 /// A command of a shell.
 #[derive(Clone, Copy)]
@@ -20,8 +23,10 @@ pub enum ShellWord {
     Count,
     /// `rv peek QUEUE`.
     Peek,
-    /// `rv swap QUEUE ITEM`, whose queue is an exchanger.
+    /// `rv swap EXCHANGER ITEM`.
     Swap,
+    /// `rv bench QUEUE`.
+    Bench,
 }
 
 impl ShellWord {
@@ -38,6 +43,7 @@ impl ShellWord {
             "count" => Some(ShellWord::Count),
             "peek" => Some(ShellWord::Peek),
             "swap" => Some(ShellWord::Swap),
+            "bench" => Some(ShellWord::Bench),
             _ => None,
         }
     }
@@ -52,6 +58,7 @@ impl ShellWord {
             ShellWord::Count => "rv count",
             ShellWord::Peek => "rv peek",
             ShellWord::Swap => "rv swap",
+            ShellWord::Bench => "rv bench",
         }
     }
 
@@ -67,6 +74,19 @@ impl ShellWord {
             ShellWord::Count => &COUNT,
             ShellWord::Peek => &PEEK,
             ShellWord::Swap => &SWAP,
+            ShellWord::Bench => &BENCH,
+        }
+    }
+
+    /// The value that tells where it does what it does.
+    pub(crate) fn place(self) -> ShellValue
+        ensures value { result ≡ place_value self }
+        ensures needed { NeedsValue self result }
+        ensures outside { (text : Text) → IsNoPlace text → IsNoValue result text }
+    {
+        match self {
+            ShellWord::Swap => ShellValue::Exchanger,
+            _ => ShellValue::Place,
         }
     }
 }
@@ -84,7 +104,7 @@ pub(crate) const PUT: ListedCommand = ListedCommand {
         ListedOption {
             name: "ITEM",
             positional: true,
-            help: "The text that is handed over, at most 512 bytes",
+            help: "The text that is handed over, at most 512 bytes, or - for each line of standard input",
             ..NEEDED
         },
         ListedOption {
@@ -280,7 +300,7 @@ pub(crate) const SWAP: ListedCommand = ListedCommand {
     about: "Swap an item at an exchanger, and print the other one",
     options: &[
         ListedOption {
-            name: "QUEUE",
+            name: "EXCHANGER",
             positional: true,
             help: "Its number, 0 to 63",
             ..NEEDED
@@ -312,6 +332,25 @@ pub(crate) const SWAP: ListedCommand = ListedCommand {
             name: "json",
             help: "Print the body of the reply",
             ..FLAG
+        },
+    ],
+};
+
+pub(crate) const BENCH: ListedCommand = ListedCommand {
+    name: "bench",
+    about: "Measure puts, takes and hand-overs a second at a queue where nothing waits",
+    options: &[
+        ListedOption {
+            name: "QUEUE",
+            positional: true,
+            help: "Its number, 0 to 63",
+            ..NEEDED
+        },
+        ListedOption {
+            name: "connect",
+            values: &["ADDR"],
+            help: "The server [default: RV_SERVER, or else 127.0.0.1:7411]",
+            ..OPTIONAL
         },
     ],
 };

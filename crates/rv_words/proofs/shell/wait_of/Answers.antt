@@ -9,5 +9,5 @@ pub returns-in-None-clause-fault : goal.returns-in-None-clause-fault
 returns-in-None-clause-fault c =
     let rows = rows_of (found_of c.args.given.now) in
     let row = ap (λ (w : Text). first_of w rows) (sym c.word.ensures) ∙ sym c.in-Some.ensures in
-    subst (λ (f : ShellFault). IsFaultIn rows f) (sym c.outside.ensures)
+    subst (λ (f : ShellFault). IsFaultIn c.args.word rows f) (sym c.outside.ensures)
     (row, c.read_duration.ensures.none c.in-None.is)

@@ -1,0 +1,319 @@
+//! `rv bench`: how many puts, takes and hand-overs a second a server does, at a queue where nothing waits.
+use crate::lease::Lease;
+use crate::shell::client::{new_incarnation, stream_to};
+use crate::shell::end::ShellEnd;
+use crate::shell::printing::Settled;
+use crate::shell::session::Session;
+use rv_frame::{Frames, Sink, Source, write_frame};
+use rv_text::{
+    Answer, Call, Item, Key, MAX_BODY_BYTES, Message, Reply, Version, Wait, decode_answer, encode_message,
+};
+use std::net::TcpStream;
+use std::time::{Clock, Duration};
+
+// How many requests are under way at once, in the first and in the second column.
+const FEW: usize = 1;
+
+const MANY: usize = 16;
+
+// For how many milliseconds puts and takes go on in each column, and hand-overs.
+const SPAN_MILLIS: u64 = 500;
+
+// How many milliseconds a take or a transfer waits for the other, at most.
+const WAIT_MILLIS: u64 = 10_000;
+
+// The item that is handed over.
+const ITEM: &str = "rv bench";
+
+// The bytes that are read at once.
+const PIECE: usize = 4_096;
+
+// What one column shows, each a second.
+#[derive(Clone, Copy)]
+struct Rates {
+    puts: u64,
+    takes: u64,
+    hand_overs: u64,
+}
+
+/// Measures, and prints the table, if nothing waits at the queue, as this reply to its count says. Each item
+/// that it puts it takes at once.
+pub(crate) fn run_bench(
+    rt: &HostRuntime,
+    session: &Session,
+    counted: &Settled,
+) -> Result<u8, ShellEnd> {
+    let Call::Count { queue } = &counted.call else {
+        return Err(ShellEnd::NoMemory);
+    };
+    if !matches!(&counted.reply, Reply::Counted { items: 0, consumers: 0 }) {
+        return Err(ShellEnd::Busy(*queue));
+    }
+    let few = rates_of(rt, session, *queue, FEW)?;
+    let many = rates_of(rt, session, *queue, MANY)?;
+    print_table(rt, few, many)
+}
+
+// Prints the table.
+fn print_table(rt: &HostRuntime, few: Rates, many: Rates) -> Result<u8, ShellEnd> {
+    let text = format!(
+        in rt.alloc();
+        "{:<12}{:>12}{:>12}\n{:<12}{:>12}{:>12}\n{:<12}{:>12}{:>12}\n{:<12}{:>12}{:>12}\n",
+        "a second", "1 at a time", "16 at once",
+        "puts", few.puts, many.puts,
+        "takes", few.takes, many.takes,
+        "hand-overs", few.hand_overs, many.hand_overs
+    )?;
+    let mut out = Sink::new(rt.stdout());
+    match out.write_all(text.as_bytes()) {
+        Ok(()) => Ok(0),
+        Err(_) => Err(ShellEnd::Unprinted),
+    }
+}
+
+// The rates with so many requests under way at once, each over a connection of its own.
+fn rates_of(
+    rt: &HostRuntime,
+    session: &Session,
+    queue: u64,
+    at_once: usize,
+) -> Result<Rates, ShellEnd> {
+    let mut producers = Peers::open(rt, session, queue, at_once)?;
+    let mut consumers = Peers::open(rt, session, queue, at_once)?;
+    let (puts, takes) = producers.put_and_take()?;
+    let hand_overs = producers.hand_over_to(&mut consumers)?;
+    Ok(Rates {
+        puts,
+        takes,
+        hand_overs,
+    })
+}
+
+// Connections that ask side by side at a queue.
+#[derive(Drop)]
+struct Peers<'a> {
+    rt: &'a HostRuntime,
+    queue: u64,
+    all: Vec<Peer>,
+}
+
+impl<'a> Peers<'a> {
+    // So many of them, each welcome.
+    fn open(
+        rt: &'a HostRuntime,
+        session: &Session,
+        queue: u64,
+        count: usize,
+    ) -> Result<Peers<'a>, ShellEnd> {
+        let mut all = Vec::new(rt.alloc());
+        for _ in 0..count {
+            let peer = Peer::open(rt, session, queue)?;
+            if all.push(peer).is_err() {
+                return Err(ShellEnd::NoMemory);
+            }
+        }
+        Ok(Peers { rt, queue, all })
+    }
+
+    // Puts, and then takes what was put, for a while; how many of each a second.
+    fn put_and_take(&mut self) -> Result<(u64, u64), ShellEnd> {
+        let (mut rounds, mut putting, mut taking) = (0, Duration::ZERO, Duration::ZERO);
+        let span = Duration::from_millis(SPAN_MILLIS);
+        while putting.saturating_add(taking) < span {
+            let began = self.now();
+            self.ask_all(&ToDo::Put)?;
+            self.hear_all()?;
+            let between = self.now();
+            self.ask_all(&ToDo::Take)?;
+            self.hear_all()?;
+            putting = putting.saturating_add(between.saturating_sub(began));
+            taking = taking.saturating_add(self.now().saturating_sub(between));
+            rounds = u64::saturating_add(rounds, 1);
+        }
+        Ok((self.rate(rounds, putting), self.rate(rounds, taking)))
+    }
+
+    // Hands items over to the consumers for a while, each of which waits for its own; how many a second.
+    fn hand_over_to(&mut self, consumers: &mut Peers) -> Result<u64, ShellEnd> {
+        let (mut rounds, began) = (0, self.now());
+        let span = Duration::from_millis(SPAN_MILLIS);
+        while self.now().saturating_sub(began) < span {
+            consumers.ask_all(&ToDo::WaitForItem)?;
+            self.ask_all(&ToDo::HandOver)?;
+            consumers.hear_all()?;
+            self.hear_all()?;
+            rounds = u64::saturating_add(rounds, 1);
+        }
+        Ok(self.rate(rounds, self.now().saturating_sub(began)))
+    }
+
+    // Sends a request over each connection.
+    fn ask_all(&mut self, to_do: &ToDo) -> Result<(), ShellEnd> {
+        for peer in &mut self.all {
+            peer.ask(self.rt, to_do.call(self.rt, self.queue)?)?;
+        }
+        Ok(())
+    }
+
+    // Hears the reply of each.
+    fn hear_all(&mut self) -> Result<(), ShellEnd> {
+        for peer in &mut self.all {
+            peer.hear(self.rt)?;
+        }
+        Ok(())
+    }
+
+    // This moment.
+    fn now(&self) -> Duration {
+        self.rt.monotonic().unwrap_or(Duration::MAX)
+    }
+
+    // How many calls of so many rounds that is a second.
+    fn rate(&self, rounds: u64, span: Duration) -> u64 {
+        let calls = u128::saturating_mul(rounds as u128, self.all.len() as u128);
+        let nanos = u128::saturating_add(span.as_nanos(), 1);
+        u64::try_from(u128::saturating_mul(calls, 1_000_000_000) / nanos).unwrap_or(u64::MAX)
+    }
+}
+
+// What is done over each connection at once.
+#[derive(Drop)]
+enum ToDo {
+    Put,
+    Take,
+    HandOver,
+    WaitForItem,
+}
+
+impl ToDo {
+    // The call for it.
+    fn call(&self, rt: &HostRuntime, queue: u64) -> Result<Call, ShellEnd> {
+        let wait = Wait::Millis(WAIT_MILLIS);
+        match self {
+            ToDo::Put => Ok(Call::Put {
+                queue,
+                item: own_item(rt)?,
+            }),
+            ToDo::Take => Ok(Call::Take {
+                queue,
+                wait: Wait::Now,
+            }),
+            ToDo::HandOver => Ok(Call::Transfer {
+                queue,
+                item: own_item(rt)?,
+                wait,
+            }),
+            ToDo::WaitForItem => Ok(Call::Take { queue, wait }),
+        }
+    }
+}
+
+// The item of the bench.
+fn own_item(rt: &HostRuntime) -> Result<Item, ShellEnd> {
+    Ok(Item::from_text(String::from_str(rt.alloc(), ITEM)?))
+}
+
+// One connection, whose client number is leased.
+#[derive(Drop)]
+struct Peer {
+    stream: TcpStream,
+    frames: Frames,
+    key: Key,
+    queue: u64,
+    _lease: Lease,
+}
+
+impl Peer {
+    // A connection whose client is welcome.
+    fn open(rt: &HostRuntime, session: &Session, queue: u64) -> Result<Peer, ShellEnd> {
+        let lease = session.lease_more(rt)?;
+        let Some(stream) = stream_to(rt, session.servers()) else {
+            return Err(ShellEnd::NoServer);
+        };
+        let key = Key {
+            epoch: 1,
+            client: lease.client,
+            incarnation: new_incarnation(rt),
+            number: 0,
+        };
+        let mut peer = Peer {
+            stream,
+            frames: Frames::new(rt.alloc()),
+            key,
+            queue,
+            _lease: lease,
+        };
+        peer.send(
+            rt,
+            &Message::Hello {
+                client: key.client,
+                incarnation: key.incarnation,
+                version: Version::Two,
+            },
+        )?;
+        match peer.answer(rt)? {
+            Answer::Welcome { epoch, .. } => {
+                peer.key.epoch = epoch;
+                Ok(peer)
+            }
+            Answer::Refused(refusal) => Err(ShellEnd::Refused(refusal)),
+            _ => Err(peer.broken()),
+        }
+    }
+
+    // Sends the next request.
+    fn ask(&mut self, rt: &HostRuntime, call: Call) -> Result<(), ShellEnd> {
+        self.key.number = self.key.number.saturating_add(1);
+        let key = self.key;
+        self.send(rt, &Message::Request { key, call })
+    }
+
+    // Hears its reply, which is one that it did what was asked.
+    fn hear(&mut self, rt: &HostRuntime) -> Result<(), ShellEnd> {
+        match self.answer(rt)? {
+            Answer::Replied { key, reply } if key == self.key => match reply {
+                Reply::Done | Reply::Received | Reply::ReceivedBy(_) => Ok(()),
+                Reply::Item(item) if item.as_str() == ITEM => Ok(()),
+                Reply::Item(item) => Err(ShellEnd::NotOwn(item.into_text())),
+                _ => Err(self.broken()),
+            },
+            _ => Err(self.broken()),
+        }
+    }
+
+    // Sends a message as a frame.
+    fn send(&mut self, rt: &HostRuntime, message: &Message) -> Result<(), ShellEnd> {
+        let body = encode_message(rt.alloc(), message)?;
+        if body.is_empty() || body.len() > MAX_BODY_BYTES {
+            return Err(self.broken());
+        }
+        let mut to = Sink::new(&self.stream);
+        match write_frame(&mut to, body.as_bytes()) {
+            Ok(()) => Ok(()),
+            Err(_) => Err(self.broken()),
+        }
+    }
+
+    // The next answer.
+    fn answer(&mut self, rt: &HostRuntime) -> Result<Answer, ShellEnd> {
+        let mut piece = [0; PIECE];
+        for _ in 0..u64::MAX {
+            if let Some(body) = self.frames.next()? {
+                return match decode_answer(rt.alloc(), &body) {
+                    Ok(answer) => Ok(answer),
+                    Err(_) => Err(self.broken()),
+                };
+            }
+            let count = Source::new(&self.stream).read(&mut piece).unwrap_or(0);
+            if count == 0 || self.frames.feed(&piece[..count]).is_err() {
+                return Err(self.broken());
+            }
+        }
+        Err(self.broken())
+    }
+
+    // The end of a bench whose server was lost, or answered otherwise.
+    fn broken(&self) -> ShellEnd {
+        ShellEnd::Broken(self.queue)
+    }
+}
