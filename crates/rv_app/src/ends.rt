@@ -3,8 +3,8 @@ ghost use Rattle.std.specs.Prelude.{IfOk};
 ghost use Rattle.std.specs.List.{All};
 ghost use Rattle.rv_end.specs.Told.{IsKeyed};
 
-use crate::connected;
 use crate::fault::ProgramFault;
+use crate::linked;
 use rv_end::{
     Ending, StatusTold, ask_status, end_request, is_looked_through, keep_due, tell_ending,
 };
@@ -54,7 +54,7 @@ pub(crate) fn run_end(
 fn look(rt: &HostRuntime, status: &str) -> Result<StatusTold, ProgramFault>
     ensures { IfOk result (λ told. All IsKeyed told.unheard.items) }
 {
-    let stream = connected(rt, status)?;
+    let stream = linked(rt, status)?;
     let mut from = Source::new(&stream);
     let mut to = Sink::new(&stream);
     Ok(ask_status(rt.alloc(), status, &mut from, &mut to)?)
@@ -144,7 +144,7 @@ impl<'a> EndingRun<'a> {
     {
         let stream = match self.link.take() {
             Some(stream) => stream,
-            None => connected(self.rt, self.connect)?,
+            None => linked(self.rt, self.connect)?,
         };
         let ending = hello_over(self.rt, &stream, row)?;
         if ending != Ending::NoAnswer {

@@ -10,7 +10,6 @@ ghost use Rattle.std.specs.Prelude.{◌≤◌};
 ghost use Rattle.rv_text.specs.Limits.{FitsIdentifier};
 
 mod account;
-mod address;
 mod again;
 mod audit;
 mod ends;
@@ -18,10 +17,8 @@ mod fault;
 mod growing;
 mod journal;
 pub mod laws;
-mod lease;
 mod opened;
 mod server;
-mod shell;
 mod verify;
 mod watch;
 
@@ -29,6 +26,7 @@ pub use account::write_account;
 pub use audit::{AuditSaid, audit_run};
 use ends::run_end;
 use fault::ProgramFault;
+use rv_commands::{connected, run_shell};
 use rv_frame::{Sink, Source};
 use rv_host::run_host;
 pub use rv_run::calls::{CallSaid, RecordFault, RecordingFault, call_run, record_run};
@@ -41,7 +39,6 @@ pub use rv_words::command::{Command, CommandFault, read_command};
 use rv_words::{HelpAnswer, asks_version, read_help, version_text, words_of_host};
 pub use rv_words::{read_record, read_verify};
 use server::{ServerPlan, serve_epoch};
-use shell::run_shell;
 use std::alloc::Global;
 use std::fmt::Display;
 use std::fs::OpenOptions;
@@ -50,8 +47,7 @@ use std::net::{TcpListener, TcpStream};
 use std::process::ExitCode;
 use std::sync::Wait;
 use std::thread::Threads;
-use std::time::Duration;
-use std::{env, io, time};
+use std::{env, time};
 use thiserror::Error;
 use verify::run_verify;
 
@@ -91,8 +87,8 @@ fn run_words<T: Threads + Wait + AllocGlobal + time::Clock + Sync>(
     if let Some(code) = run_help(rt, words)? {
         return Ok(code);
     }
-    if let Some(code) = run_shell(rt, words) {
-        return Ok(code);
+    if let Some(status) = run_shell(rt, words) {
+        return Ok(ExitCode::from(status));
     }
     if let Some((file, call)) = read_record(rt.alloc(), words)? {
         return run_recorded(rt, file, &call);
@@ -230,25 +226,12 @@ fn run_audit(rt: &HostRuntime) -> Result<ExitCode, ProgramFault> {
     }
 }
 
-// The seconds after which a server that says nothing, or takes nothing, is a fault of the link.
-const LINK_SECONDS: u64 = 60;
-
-// Sets how long a server is waited for.
-fn limit(stream: &TcpStream) -> io::Result<()> {
-    stream.set_read_timeout(Some(Duration::from_secs(LINK_SECONDS)))?;
-    stream.set_write_timeout(Some(Duration::from_secs(LINK_SECONDS)))
-}
-
-// A link to a server. If the delay of small packets cannot be switched off, the run goes on, slower.
-fn connected(rt: &HostRuntime, address: &str) -> Result<TcpStream, ProgramFault> {
-    let Ok(stream) = TcpStream::connect(rt, address) else {
-        return Err(ProgramFault::Address);
-    };
-    if limit(&stream).is_err() {
-        return Err(ProgramFault::Address);
+// A link to a server.
+fn linked(rt: &HostRuntime, address: &str) -> Result<TcpStream, ProgramFault> {
+    match connected(rt, address) {
+        Ok(stream) => Ok(stream),
+        Err(_) => Err(ProgramFault::Address),
     }
-    let _ = stream.set_nodelay(true);
-    Ok(stream)
 }
 
 // Connects first, and then reads the lines.
@@ -263,7 +246,7 @@ fn run_call(
     requires client { FitsIdentifier client }
     requires incarnation { FitsIdentifier incarnation }
 {
-    let stream = connected(rt, connect)?;
+    let stream = linked(rt, connect)?;
     let mut lines = Source::new(rt.stdin());
     let mut out = Sink::new(rt.stdout());
     let mut from = Source::new(&stream);
@@ -314,7 +297,7 @@ fn run_record(
         Ok(file) => file,
         Err(error) => return Ok(unrecorded(rt, path, &error)),
     };
-    let stream = connected(rt, connect)?;
+    let stream = linked(rt, connect)?;
     let mut lines = Source::new(rt.stdin());
     let mut out = Sink::new(rt.stdout());
     let mut from = Source::new(&stream);

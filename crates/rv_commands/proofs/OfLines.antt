@@ -47,46 +47,56 @@ module _ {B R W : Type 0} (bytes : B → Option (List ℕ)) (remaining : R → O
   }
 
   by_end : (starting : Starting) (old new : LinePuts B) (before after : Link R W) (put asked_put : OpenCall)
-      (end : CallEnd) (told : LineEnd) → AsksPut bytes remaining contents starting old new before after put end
-      → asked_put.call ≡ put.call → asked_put.asked ≡ key_asked end put.asked → KeepsOpen asked_put end new.open_put told
+      (end : CallEnd) (told : LineEnd) → AsksPut bytes remaining contents starting old new before after put
+      end
+      → asked_put.call ≡ put.call → asked_put.asked ≡ key_asked end put.asked
+      → KeepsOpen asked_put end new.open_put told
       → TakesStep bytes remaining contents starting old new before after told
   by_end starting old new before after put asked_put (ends.Replied key reply) told asks same asked kept =
       subst (λ (t : LineEnd). TakesStep bytes remaining contents starting old new before after t) (sym kept.0)
       (record { put = put; call_is = sym same; asks = asks; none_open = kept.1 })
   by_end starting old new before after put asked_put (ends.Refused key refusal) told asks same asked kept =
       subst (λ (t : LineEnd). TakesStep bytes remaining contents starting old new before after t) (sym kept.0)
-      (leaves starting old new before after put asked_put (ends.Refused key refusal) (λ k r is. absurd (cc)) asks same
+      (leaves starting old new before after put asked_put (ends.Refused key refusal) (λ k r is. absurd (cc))
+      asks same
       asked kept.1)
   by_end starting old new before after put asked_put (ends.Unsettled key fault) told asks same asked kept =
       subst (λ (t : LineEnd). TakesStep bytes remaining contents starting old new before after t) (sym kept.0)
-      (leaves starting old new before after put asked_put (ends.Unsettled key fault) (λ k r is. absurd (cc)) asks same
+      (leaves starting old new before after put asked_put (ends.Unsettled key fault) (λ k r is. absurd (cc))
+      asks same
       asked kept.1)
   by_end starting old new before after put asked_put (ends.EpochEnded key current) told asks same asked kept =
       subst (λ (t : LineEnd). TakesStep bytes remaining contents starting old new before after t) (sym kept.0)
-      (leaves starting old new before after put asked_put (ends.EpochEnded key current) (λ k r is. absurd (cc)) asks
+      (leaves starting old new before after put asked_put (ends.EpochEnded key current)
+      (λ k r is. absurd (cc)) asks
       same asked kept.1)
   by_end starting old new before after put asked_put (ends.Replaced key current) told asks same asked kept =
       subst (λ (t : LineEnd). TakesStep bytes remaining contents starting old new before after t) (sym kept.0)
-      (leaves starting old new before after put asked_put (ends.Replaced key current) (λ k r is. absurd (cc)) asks same
+      (leaves starting old new before after put asked_put (ends.Replaced key current) (λ k r is. absurd (cc))
+      asks same
       asked kept.1)
   by_end starting old new before after put asked_put (ends.Moved key epoch) told asks same asked kept =
       subst (λ (t : LineEnd). TakesStep bytes remaining contents starting old new before after t) (sym kept.0)
-      (leaves starting old new before after put asked_put (ends.Moved key epoch) (λ k r is. absurd (cc)) asks same
+      (leaves starting old new before after put asked_put (ends.Moved key epoch) (λ k r is. absurd (cc)) asks
+      same
       asked kept.1)
   by_end starting old new before after put asked_put (ends.Unwelcome refusal) told asks same asked kept =
       subst (λ (t : LineEnd). TakesStep bytes remaining contents starting old new before after t) (sym kept.0)
-      (leaves starting old new before after put asked_put (ends.Unwelcome refusal) (λ k r is. absurd (cc)) asks same
+      (leaves starting old new before after put asked_put (ends.Unwelcome refusal) (λ k r is. absurd (cc))
+      asks same
       asked kept.1)
   by_end starting old new before after put asked_put (ends.Unheard fault) told asks same asked kept =
       subst (λ (t : LineEnd). TakesStep bytes remaining contents starting old new before after t) (sym kept.0)
-      (leaves starting old new before after put asked_put (ends.Unheard fault) (λ k r is. absurd (cc)) asks same
+      (leaves starting old new before after put asked_put (ends.Unheard fault) (λ k r is. absurd (cc)) asks
+      same
       asked kept.1)
 
   -- the put that was taken, and what came of it
   pub takes_step : (starting : Starting) (old mid new : LinePuts B) (before after : Link R W)
       (put asked_put : OpenCall) (end : CallEnd) (told : LineEnd) → TakesOpen bytes old mid (Ok put)
       → EndsCall remaining contents starting put.call put.asked before after end → asked_put.call ≡ put.call
-      → asked_put.asked ≡ key_asked end put.asked → KeepsOpen asked_put end new.open_put told → new.input ≡ mid.input
+      → asked_put.asked ≡ key_asked end put.asked → KeepsOpen asked_put end new.open_put told
+      → new.input ≡ mid.input
       → TakesStep bytes remaining contents starting old new before after told
   takes_step starting old mid new before after put asked_put end told taken ended same asked kept is =
       by_end starting old new before after put asked_put end told

@@ -5,3 +5,4 @@ pub mod Lines
 pub mod Pieces
 pub mod Printed
 pub mod Records
+pub mod Statuses

@@ -38,8 +38,9 @@ abbrev pub unread : {B : Type 0} → (B → Option (List ℕ)) → LineInput B �
 unread bytes input = split_known_bytes bytes input.pieces
 
 module _ {B : Type 0} (bytes : B → Option (List ℕ)) where
-  -- one more line was read: where the input's bytes are known, those before the first LF, or all that are left
-  pub record ReadsLine (old new : LineInput B) (Has : List ℕ → Type 0) : Type 0 where
+  -- one more line was read: where the input's bytes are known, those before the first LF, or all that are
+  -- left
+  pub record ReadsOneLine (old new : LineInput B) (Has : List ℕ → Type 0) : Type 0 where
     pub line : IfSome (unread bytes old) (λ left. (0 < length left) × Has (first_piece 10 left))
     pub rest : DropsThrough (unread bytes old) (unread bytes new) 10
     pub count : new.read ≡ u64_saturate (old.read + 1)
@@ -47,21 +48,21 @@ module _ {B : Type 0} (bytes : B → Option (List ℕ)) where
   -- the put that was open, of which nothing more was read, or else that of the next line
   abbrev pub IsNextPut : LinePuts B → LinePuts B → OpenCall → Type 0
   IsNextPut old new put = MatchOption old.open_put
-      (ReadsLine old.input new.input (λ text. IsNewPut old.queue text put))
+      (ReadsOneLine old.input new.input (λ text. IsNewPut old.queue text put))
       (λ before. (put ≡ before) × (new.input ≡ old.input))
 
   -- none was open, and there is no line, or the next one is no item, or it can't be read
-  abbrev pub HasNone : LinePuts B → LinePuts B → LineEnd → Type 0
-  HasNone old new line.Over = (old.open_put ≡ None) × IsAtEnd (unread bytes old.input)
-  HasNone old new (line.NoItem number) = (old.open_put ≡ None) × (number ≡ new.input.read)
-      × ReadsLine old.input new.input (IsNoPut old.queue)
-  HasNone old new line.ReadFault = old.open_put ≡ None
-  HasNone old new _ = ⊥
+  abbrev pub FindsNoPut : LinePuts B → LinePuts B → LineEnd → Type 0
+  FindsNoPut old new line.Over = (old.open_put ≡ None) × IsAtEnd (unread bytes old.input)
+  FindsNoPut old new (line.NoItem number) = (old.open_put ≡ None) × (number ≡ new.input.read)
+      × ReadsOneLine old.input new.input (IsNoPut old.queue)
+  FindsNoPut old new line.ReadFault = old.open_put ≡ None
+  FindsNoPut old new _ = ⊥
 
   -- for a private clause: a put is taken, and none is open then
   abbrev pub TakesOpen : LinePuts B → LinePuts B → Result OpenCall LineEnd → Type 0
   TakesOpen old new (Ok put) = (new.queue ≡ old.queue) × (new.open_put ≡ None) × IsNextPut old new put
-  TakesOpen old new (Err end) = (new.queue ≡ old.queue) × (new.open_put ≡ None) × HasNone old new end
+  TakesOpen old new (Err end) = (new.queue ≡ old.queue) × (new.open_put ≡ None) × FindsNoPut old new end
 
 -- for a private clause: what the end of a put tells, and whether it stays open
 abbrev pub KeepsOpen : OpenCall → CallEnd → Option OpenCall → LineEnd → Type 0
@@ -91,7 +92,8 @@ module _ {B R W : Type 0} (bytes : B → Option (List ℕ)) (remaining : R → O
     pub put : OpenCall
     pub no_reply : (key : Key) (reply : Reply) → ¬ (end ≡ ends.Replied key reply)
     pub asks : AsksPut starting old new before after put end
-    pub stays : IsSomeAnd new.open_put (λ left. (left.call ≡ put.call) × (left.asked ≡ key_asked end put.asked))
+    pub stays : IsSomeAnd new.open_put (λ left. (left.call ≡ put.call)
+        × (left.asked ≡ key_asked end put.asked))
 
   -- what came of the next line
   abbrev pub TakesStep : Starting → LinePuts B → LinePuts B → Link R W → Link R W → LineEnd → Type 0
@@ -99,4 +101,4 @@ module _ {B R W : Type 0} (bytes : B → Option (List ℕ)) (remaining : R → O
       SettlesPut starting old new before after call key reply
   TakesStep starting old new before after (line.Open end) = LeavesOpen starting old new before after end
   TakesStep starting old new before after end =
-      (after ≡ before) × HasNone bytes old new end × (new.open_put ≡ None)
+      (after ≡ before) × FindsNoPut bytes old new end × (new.open_put ≡ None)

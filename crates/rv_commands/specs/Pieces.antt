@@ -9,7 +9,8 @@ use Rattle.rv_text.specs.declared.call.Wait.TheVariants.{Forever, Millis, Now}
 -- together are the wait
 abbrev pub pieces_of : Wait → ℕ → Wait × Option Wait
 pieces_of Now most = (Now, None)
-pieces_of (Millis n) most = if nat_lt most n then (Millis most, Some (Millis (n - most))) else (Millis n, None)
+pieces_of (Millis n) most = if nat_lt most n then (Millis most, Some (Millis (n - most))) else
+    (Millis n, None)
 pieces_of Forever most = (Millis most, Some Forever)
 
 -- the call with this wait, if both wait

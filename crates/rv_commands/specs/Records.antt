@@ -10,4 +10,5 @@ use Rattle.rv_run.specs.calls.Records.{record_text}
 
 -- the request of this key with this call, its reply, and LF
 abbrev pub reply_line : Key → Call → Reply → List ℕ
-reply_line key call reply = record_text (message_text (Request key call)) (answer_text (Replied key reply)) ++ 10 ∷ []
+reply_line key call reply = record_text (message_text (Request key call)) (answer_text (Replied key reply)) ++
+    10 ∷ []

@@ -1,5 +1,5 @@
-//! One call of a shell's command over a link, items that are put line by line, what is printed of a reply and
-//! recorded of it, its status, and leases of client numbers.
+//! The commands of a shell, such as `rv take 3`: they ask, print and record what came of it, and end with its
+//! status.
 //!
 //! ```
 //! let new = New::start(client, incarnation, Version::Two);
@@ -18,6 +18,7 @@ mod open;
 mod pieces;
 mod record;
 mod reply;
+mod run;
 
 pub use asking::{CallEnd, ask_call};
 pub use lease::{lease_address, lease_at};
@@ -26,3 +27,4 @@ pub use open::OpenCall;
 pub use pieces::{call_for, first_piece};
 pub use record::record_line;
 pub use reply::{ReplyForm, reply_text, status_of};
+pub use run::{connected, run_shell};

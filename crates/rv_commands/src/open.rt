@@ -21,7 +21,7 @@ pub struct OpenCall {
 impl OpenCall {
     /// A call that wasn't asked yet, if it keeps its limits.
     pub fn new(call: Call) -> Option<OpenCall>
-        ensures some { IfSome result (λ new. (new.call ≡ call) × (new.asked ≡ None)) }
+        ensures some { IfSome result (λ new. (new.call ≡ call) × (new.asked ≡ None) × FitsCall call) }
         ensures none { result ≡ None → ¬ FitsCall call }
     {
         if call.fits() {
@@ -35,7 +35,8 @@ impl OpenCall {
     pub fn asked(&self) -> Option<Key>
         ensures { result ≡ self.now.asked }
     {
-        self.asked
+        let OpenCall { call: _, asked } = self;
+        *asked
     }
 
     /// The call.
@@ -46,8 +47,8 @@ impl OpenCall {
         call
     }
 
-    /// Says hello and asks once, as [`ask_call`] does, with the key that its request had earlier. Where memory
-    /// for that is refused, nothing goes out.
+    /// Says hello and asks once, as [`ask_call`] does, with the key that its request had earlier. Where
+    /// memory for that is refused, nothing goes out.
     pub fn ask_again<R: Read, W: Write>(
         &mut self,
         alloc: Global,

@@ -7,12 +7,7 @@ use std::alloc::Global;
 
 /// The line of a record that tells the request of this key with this call, and its reply. Fails only if
 /// memory was refused.
-pub fn record_line(
-    alloc: Global,
-    key: &Key,
-    call: &Call,
-    reply: &Reply,
-) -> Result<String, NoMemory>
+pub fn record_line(alloc: Global, key: &Key, call: &Call, reply: &Reply) -> Result<String, NoMemory>
     ensures { IfOk result (λ text. string_bytes text ≡ reply_line key.now call.now reply.now) }
 {
     let asked = encode_request(alloc, key, call)?;

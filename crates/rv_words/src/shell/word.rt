@@ -91,266 +91,112 @@ impl ShellWord {
     }
 }
 
+// The options and values of the commands.
+const QUEUE: ListedOption = ListedOption {
+    name: "QUEUE",
+    positional: true,
+    help: "Its number, 0 to 63",
+    ..NEEDED
+};
+
+const EXCHANGER: ListedOption = ListedOption {
+    name: "EXCHANGER",
+    positional: true,
+    help: "Its number, 0 to 63",
+    ..NEEDED
+};
+
+const ITEM: ListedOption = ListedOption {
+    name: "ITEM",
+    positional: true,
+    help: "The text that is handed over, at most 512 bytes",
+    ..NEEDED
+};
+
+const ITEM_OR_LINES: ListedOption = ListedOption {
+    name: "ITEM",
+    positional: true,
+    help: "The text that is handed over, at most 512 bytes, or - for each line of standard input",
+    ..NEEDED
+};
+
+const WAIT: ListedOption = ListedOption {
+    name: "wait",
+    values: &["TIME"],
+    help: "How long, as 500ms, 10s or 2m, 0s not at all [default: until it is met]",
+    ..OPTIONAL
+};
+
+const MAX: ListedOption = ListedOption {
+    name: "max",
+    values: &["N"],
+    help: "How many at most, 1 to 16",
+    ..NEEDED
+};
+
+const CONNECT: ListedOption = ListedOption {
+    name: "connect",
+    values: &["ADDR"],
+    help: "The server [default: RV_SERVER, or else 127.0.0.1:7411]",
+    ..OPTIONAL
+};
+
+const NULL: ListedOption = ListedOption {
+    name: "null",
+    help: "End what is printed with a zero byte in place of LF",
+    ..FLAG
+};
+
+const JSON: ListedOption = ListedOption {
+    name: "json",
+    help: "Print the body of the reply",
+    ..FLAG
+};
+
 pub(crate) const PUT: ListedCommand = ListedCommand {
     name: "put",
     about: "Put an item into a queue",
-    options: &[
-        ListedOption {
-            name: "QUEUE",
-            positional: true,
-            help: "Its number, 0 to 63",
-            ..NEEDED
-        },
-        ListedOption {
-            name: "ITEM",
-            positional: true,
-            help: "The text that is handed over, at most 512 bytes, or - for each line of standard input",
-            ..NEEDED
-        },
-        ListedOption {
-            name: "connect",
-            values: &["ADDR"],
-            help: "The server [default: RV_SERVER, or else 127.0.0.1:7411]",
-            ..OPTIONAL
-        },
-        ListedOption {
-            name: "null",
-            help: "End what is printed with a zero byte in place of LF",
-            ..FLAG
-        },
-        ListedOption {
-            name: "json",
-            help: "Print the body of the reply",
-            ..FLAG
-        },
-    ],
+    options: &[QUEUE, ITEM_OR_LINES, CONNECT, NULL, JSON],
 };
 
 pub(crate) const TAKE: ListedCommand = ListedCommand {
     name: "take",
     about: "Take the oldest item of a queue, and print it",
-    options: &[
-        ListedOption {
-            name: "QUEUE",
-            positional: true,
-            help: "Its number, 0 to 63",
-            ..NEEDED
-        },
-        ListedOption {
-            name: "wait",
-            values: &["TIME"],
-            help: "How long, as 500ms, 10s or 2m, 0s not at all [default: until it is met]",
-            ..OPTIONAL
-        },
-        ListedOption {
-            name: "connect",
-            values: &["ADDR"],
-            help: "The server [default: RV_SERVER, or else 127.0.0.1:7411]",
-            ..OPTIONAL
-        },
-        ListedOption {
-            name: "null",
-            help: "End what is printed with a zero byte in place of LF",
-            ..FLAG
-        },
-        ListedOption {
-            name: "json",
-            help: "Print the body of the reply",
-            ..FLAG
-        },
-    ],
+    options: &[QUEUE, WAIT, CONNECT, NULL, JSON],
 };
 
 pub(crate) const TRANSFER: ListedCommand = ListedCommand {
     name: "transfer",
     about: "Hand an item over to a consumer, and print who took it",
-    options: &[
-        ListedOption {
-            name: "QUEUE",
-            positional: true,
-            help: "Its number, 0 to 63",
-            ..NEEDED
-        },
-        ListedOption {
-            name: "ITEM",
-            positional: true,
-            help: "The text that is handed over, at most 512 bytes",
-            ..NEEDED
-        },
-        ListedOption {
-            name: "wait",
-            values: &["TIME"],
-            help: "How long, as 500ms, 10s or 2m, 0s not at all [default: until it is met]",
-            ..OPTIONAL
-        },
-        ListedOption {
-            name: "connect",
-            values: &["ADDR"],
-            help: "The server [default: RV_SERVER, or else 127.0.0.1:7411]",
-            ..OPTIONAL
-        },
-        ListedOption {
-            name: "null",
-            help: "End what is printed with a zero byte in place of LF",
-            ..FLAG
-        },
-        ListedOption {
-            name: "json",
-            help: "Print the body of the reply",
-            ..FLAG
-        },
-    ],
+    options: &[QUEUE, ITEM, WAIT, CONNECT, NULL, JSON],
 };
 
 pub(crate) const DRAIN: ListedCommand = ListedCommand {
     name: "drain",
     about: "Take the oldest items of a queue in one step, and print them",
-    options: &[
-        ListedOption {
-            name: "QUEUE",
-            positional: true,
-            help: "Its number, 0 to 63",
-            ..NEEDED
-        },
-        ListedOption {
-            name: "max",
-            values: &["N"],
-            help: "How many at most, 1 to 16",
-            ..NEEDED
-        },
-        ListedOption {
-            name: "connect",
-            values: &["ADDR"],
-            help: "The server [default: RV_SERVER, or else 127.0.0.1:7411]",
-            ..OPTIONAL
-        },
-        ListedOption {
-            name: "null",
-            help: "End what is printed with a zero byte in place of LF",
-            ..FLAG
-        },
-        ListedOption {
-            name: "json",
-            help: "Print the body of the reply",
-            ..FLAG
-        },
-    ],
+    options: &[QUEUE, MAX, CONNECT, NULL, JSON],
 };
 
 pub(crate) const COUNT: ListedCommand = ListedCommand {
     name: "count",
     about: "Count the items and the consumers that wait at a queue",
-    options: &[
-        ListedOption {
-            name: "QUEUE",
-            positional: true,
-            help: "Its number, 0 to 63",
-            ..NEEDED
-        },
-        ListedOption {
-            name: "connect",
-            values: &["ADDR"],
-            help: "The server [default: RV_SERVER, or else 127.0.0.1:7411]",
-            ..OPTIONAL
-        },
-        ListedOption {
-            name: "null",
-            help: "End what is printed with a zero byte in place of LF",
-            ..FLAG
-        },
-        ListedOption {
-            name: "json",
-            help: "Print the body of the reply",
-            ..FLAG
-        },
-    ],
+    options: &[QUEUE, CONNECT, NULL, JSON],
 };
 
 pub(crate) const PEEK: ListedCommand = ListedCommand {
     name: "peek",
     about: "Print the oldest item of a queue, which stays",
-    options: &[
-        ListedOption {
-            name: "QUEUE",
-            positional: true,
-            help: "Its number, 0 to 63",
-            ..NEEDED
-        },
-        ListedOption {
-            name: "connect",
-            values: &["ADDR"],
-            help: "The server [default: RV_SERVER, or else 127.0.0.1:7411]",
-            ..OPTIONAL
-        },
-        ListedOption {
-            name: "null",
-            help: "End what is printed with a zero byte in place of LF",
-            ..FLAG
-        },
-        ListedOption {
-            name: "json",
-            help: "Print the body of the reply",
-            ..FLAG
-        },
-    ],
+    options: &[QUEUE, CONNECT, NULL, JSON],
 };
 
 pub(crate) const SWAP: ListedCommand = ListedCommand {
     name: "swap",
     about: "Swap an item at an exchanger, and print the other one",
-    options: &[
-        ListedOption {
-            name: "EXCHANGER",
-            positional: true,
-            help: "Its number, 0 to 63",
-            ..NEEDED
-        },
-        ListedOption {
-            name: "ITEM",
-            positional: true,
-            help: "The text that is handed over, at most 512 bytes",
-            ..NEEDED
-        },
-        ListedOption {
-            name: "wait",
-            values: &["TIME"],
-            help: "How long, as 500ms, 10s or 2m, 0s not at all [default: until it is met]",
-            ..OPTIONAL
-        },
-        ListedOption {
-            name: "connect",
-            values: &["ADDR"],
-            help: "The server [default: RV_SERVER, or else 127.0.0.1:7411]",
-            ..OPTIONAL
-        },
-        ListedOption {
-            name: "null",
-            help: "End what is printed with a zero byte in place of LF",
-            ..FLAG
-        },
-        ListedOption {
-            name: "json",
-            help: "Print the body of the reply",
-            ..FLAG
-        },
-    ],
+    options: &[EXCHANGER, ITEM, WAIT, CONNECT, NULL, JSON],
 };
 
 pub(crate) const BENCH: ListedCommand = ListedCommand {
     name: "bench",
     about: "Measure puts, takes and hand-overs a second at a queue where nothing waits",
-    options: &[
-        ListedOption {
-            name: "QUEUE",
-            positional: true,
-            help: "Its number, 0 to 63",
-            ..NEEDED
-        },
-        ListedOption {
-            name: "connect",
-            values: &["ADDR"],
-            help: "The server [default: RV_SERVER, or else 127.0.0.1:7411]",
-            ..OPTIONAL
-        },
-    ],
+    options: &[QUEUE, CONNECT],
 };

@@ -4,4 +4,5 @@ use Rattle.rv_commands.proofs.lines.put_of.Goals as goal
 
 pub returns-in_default-clause-none : goal.returns-in_default-clause-none
 returns-in_default-clause-none c none fits =
-    let is_text = c.in_default.ensures.succeeds (utf8_of_put c.args.queue c.args.line.items fits) in absurd (cc)
+    let is_text = c.in_default.ensures.succeeds (utf8_of_put c.args.queue c.args.line.items fits) in
+    absurd (cc)

@@ -9,4 +9,5 @@ returns-clause-step g c =
     c.take_open.new.self c.settle.new.self (link c.args.from.now c.args.to.now)
     (link c.ask_again-end.new.from c.ask_again-end.new.to) c.in-Ok.put c.ask_again-end.new.self
     c.ask_again-end.result c.settle.result c.in-Ok.ensures c.ask_again-end.ensures.ends
-    c.ask_again-end.ensures.call c.ask_again-end.ensures.asked c.settle.ensures.open_put c.settle.ensures.input
+    c.ask_again-end.ensures.call c.ask_again-end.ensures.asked c.settle.ensures.open_put
+    c.settle.ensures.input

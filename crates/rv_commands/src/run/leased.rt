@@ -1,5 +1,5 @@
 //! A client number that no other program of this user has on this host, while its socket is bound.
-use rv_commands::{lease_address, lease_at};
+use crate::lease::{lease_address, lease_at};
 use rv_lines::read_identifier;
 use std::io::ErrorKind;
 use std::net::{Ipv4Addr, SocketAddrV4, UdpSocket};

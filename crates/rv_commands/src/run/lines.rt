@@ -1,11 +1,11 @@
 //! The lines of standard input, each of which is put, after the one before it was settled.
 ghost use Rattle.rv_text.specs.Limits.{FitsIdentifier};
 
-use crate::shell::client::{Asked, Asks, ShellClient};
-use crate::shell::end::ShellEnd;
-use crate::shell::printing::{Settled, Teller};
+use crate::lines::{LineEnd, LinePuts};
+use crate::run::client::{Asked, OpenRequest, ShellClient};
+use crate::run::end::ShellEnd;
+use crate::run::printing::{SettledCall, Teller};
 use rv_client::New;
-use rv_commands::{LineEnd, LinePuts};
 use rv_frame::{Sink, Source};
 use rv_text::{Call, Key};
 use std::alloc::Global;
@@ -19,7 +19,7 @@ struct Lines<B> {
     settled: Option<Call>,
 }
 
-impl<B: BufRead> Asks for Lines<B>
+impl<B: BufRead> OpenRequest for Lines<B>
 where
     B: Drop,
 {
@@ -63,7 +63,7 @@ pub(crate) fn put_lines(
             return Ok(0);
         };
         if let Some(call) = lines.settled.take() {
-            teller.tell(&Settled { call, key, reply })?;
+            teller.tell(&SettledCall { call, key, reply })?;
         }
     }
     Err(ShellEnd::NoMemory)

@@ -131,10 +131,11 @@ fn is_name(host: &str) -> bool {
 
 // Whether a character may stand in a host's name.
 fn is_of_name(c: char) -> bool {
-    !c.is_whitespace() && !matches!(
-        c,
-        '\0' | '/' | '?' | '#' | '&' | ',' | ':' | '[' | ']' | '@' | '%'
-    )
+    !c.is_whitespace()
+        && !matches!(
+            c,
+            '\0' | '/' | '?' | '#' | '&' | ',' | ':' | '[' | ']' | '@' | '%'
+        )
 }
 
 // Whether a text is an address of version 6, which may have a zone.

@@ -1,9 +1,10 @@
 //! A call that waits, piece by piece, so that one that is killed leaves a request for a short time only.
-use crate::shell::client::ShellClient;
-use crate::shell::end::ShellEnd;
-use crate::shell::printing::{Settled, Teller};
+use crate::open::OpenCall;
+use crate::pieces::{call_for, first_piece};
+use crate::run::client::ShellClient;
+use crate::run::end::ShellEnd;
+use crate::run::printing::{SettledCall, Teller};
 use httpdate::HttpDate;
-use rv_commands::{OpenCall, call_for, first_piece};
 use rv_text::{Call, Reply, Wait};
 use std::io::IsTerminal;
 use std::time::Clock;
@@ -13,13 +14,13 @@ const PIECE_MILLIS: u64 = 10_000;
 
 const FIRST_MILLIS: u64 = 1_000;
 
-/// What came of the call, of which each piece is a request of its own. A piece that ended without being met is
-/// recorded here, if another follows.
+/// What came of the call, of which each piece is a request of its own. A piece that ended without being met
+/// is recorded here, if another follows.
 pub(crate) fn settled_in_pieces(
     client: &mut ShellClient,
     teller: &mut Teller,
     asked: &Call,
-) -> Result<Settled, ShellEnd> {
+) -> Result<SettledCall, ShellEnd> {
     let rt = client.rt();
     let mut notice = Notice::new(rt);
     let mut left = asked.wait();
@@ -41,12 +42,12 @@ pub(crate) fn settled_in_pieces(
 }
 
 // What came of one piece.
-fn settled_piece(client: &mut ShellClient, call: Call) -> Result<Settled, ShellEnd> {
+fn settled_piece(client: &mut ShellClient, call: Call) -> Result<SettledCall, ShellEnd> {
     let Some(mut piece) = OpenCall::new(call.copy(client.rt().alloc())?) else {
         return Err(ShellEnd::Clock);
     };
     match client.settle(&mut piece)? {
-        Some((key, reply)) => Ok(Settled { call, key, reply }),
+        Some((key, reply)) => Ok(SettledCall { call, key, reply }),
         None => Err(ShellEnd::NoMemory),
     }
 }

@@ -1,5 +1,5 @@
 //! Why a command of a shell has no reply, and the status that tells it.
-use crate::lease::ClientRange;
+use crate::run::leased::ClientRange;
 use rv_text::{Key, Refusal, Version};
 use std::alloc::AllocError;
 use std::fmt;
@@ -61,7 +61,10 @@ impl fmt::Display for ShellEnd {
             ShellEnd::NoServer => f.write_str("no server: none listens at the address"),
             ShellEnd::Words(text) | ShellEnd::Unrecorded(text) => f.write_str(text),
             ShellEnd::NoItem(line) => {
-                write!(f, "line {line}: no item, which is at most 512 bytes of UTF-8")
+                write!(
+                    f,
+                    "line {line}: no item, which is at most 512 bytes of UTF-8"
+                )
             }
             ShellEnd::Unread => f.write_str("standard input can't be read"),
             ShellEnd::Refused(refusal) => write!(f, "refused {}: {refusal}", refusal.code()),
@@ -69,14 +72,16 @@ impl fmt::Display for ShellEnd {
             ShellEnd::Leased(range) => write!(
                 f,
                 "each client number from {} to {} is leased on this host",
-                range.first,
-                range.last
+                range.first, range.last
             ),
             ShellEnd::Clock => f.write_str("the clock gives no incarnation"),
             ShellEnd::Unprinted => f.write_str("standard output didn't take the reply"),
             ShellEnd::Busy(queue) => write!(f, "QUEUE {queue}: items or consumers wait there"),
             ShellEnd::NotOwn(item) => {
-                write!(f, "a take got an item that somebody else put meanwhile: {item}")
+                write!(
+                    f,
+                    "a take got an item that somebody else put meanwhile: {item}"
+                )
             }
             ShellEnd::Broken(queue) => {
                 write!(f, "the server was lost, or didn't do as it was asked; ")?;

@@ -1,14 +1,14 @@
 //! Tells the reply of a command: in its record, and on standard output.
-use crate::shell::end::ShellEnd;
-use crate::shell::record::Record;
-use rv_commands::{ReplyForm, reply_text, status_of};
+use crate::reply::{ReplyForm, reply_text, status_of};
+use crate::run::end::ShellEnd;
+use crate::run::record::Record;
 use rv_frame::Sink;
 use rv_text::{Call, Key, Reply};
 use rv_words::shell::ShellCall;
 
 /// A call, and the reply of its request.
 #[derive(Drop)]
-pub(crate) struct Settled {
+pub(crate) struct SettledCall {
     pub(crate) call: Call,
     pub(crate) key: Key,
     pub(crate) reply: Reply,
@@ -38,13 +38,13 @@ impl<'a> Teller<'a> {
     }
 
     /// Records a reply that isn't printed.
-    pub(crate) fn record(&mut self, settled: &Settled) -> Result<(), ShellEnd> {
+    pub(crate) fn record(&mut self, settled: &SettledCall) -> Result<(), ShellEnd> {
         self.record.append(self.rt.alloc(), settled)
     }
 
     /// Records a reply, prints it in one write, and gives its status. It is printed too where the record
     /// doesn't take it.
-    pub(crate) fn tell(&mut self, settled: &Settled) -> Result<u8, ShellEnd> {
+    pub(crate) fn tell(&mut self, settled: &SettledCall) -> Result<u8, ShellEnd> {
         let recorded = self.record(settled);
         let text = reply_text(self.rt.alloc(), self.form, &settled.key, &settled.reply)?;
         let mut out = Sink::new(self.rt.stdout());

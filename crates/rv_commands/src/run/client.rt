@@ -1,11 +1,12 @@
 //! The client of a shell's command: it asks, over one connection after another, until its request is settled.
 ghost use Rattle.rv_text.specs.Limits.{FitsIdentifier};
 
-use crate::connected;
-use crate::shell::end::ShellEnd;
-use crate::shell::session::Session;
+use crate::asking::CallEnd;
+use crate::open::OpenCall;
+use crate::run::end::ShellEnd;
+use crate::run::link::connected_to_one;
+use crate::run::session::ShellSession;
 use rv_client::New;
-use rv_commands::{CallEnd, OpenCall};
 use rv_frame::{Sink, Source};
 use rv_text::{Key, Refusal, Reply, Version, fits_identifier};
 use std::alloc::Global;
@@ -31,7 +32,7 @@ pub(crate) enum Asked {
 }
 
 /// What is asked, again and again, until it is settled.
-pub(crate) trait Asks {
+pub(crate) trait OpenRequest {
     /// The key of its request, if that was asked and isn't settled.
     fn asked(&self) -> Option<Key>;
 
@@ -47,7 +48,7 @@ pub(crate) trait Asks {
         requires incarnation { FitsIdentifier new.incarnation };
 }
 
-impl Asks for OpenCall {
+impl OpenRequest for OpenCall {
     fn asked(&self) -> Option<Key> {
         OpenCall::asked(self)
     }
@@ -95,7 +96,7 @@ enum Tried {
 
 impl<'a> ShellClient<'a> {
     /// A client of the session, which has asked nothing.
-    pub(crate) fn new(rt: &'a HostRuntime, session: &'a Session) -> ShellClient<'a> {
+    pub(crate) fn new(rt: &'a HostRuntime, session: &'a ShellSession) -> ShellClient<'a> {
         ShellClient {
             rt,
             servers: session.servers(),
@@ -118,9 +119,9 @@ impl<'a> ShellClient<'a> {
         self.stream = None;
     }
 
-    /// Asks until it is settled, again over another connection where one is lost: the reply of the request of
-    /// this key, or `None` if there is nothing to ask.
-    pub(crate) fn settle<A: Asks>(
+    /// Asks until it is settled, again over another connection where one is lost: the reply of the request
+    /// of this key, or `None` if there is nothing to ask.
+    pub(crate) fn settle<A: OpenRequest>(
         &mut self,
         asks: &mut A,
     ) -> Result<Option<(Key, Reply)>, ShellEnd> {
@@ -143,10 +144,14 @@ impl<'a> ShellClient<'a> {
         }
     }
 
-    // Asks once, over the connection that there is or a new one. If there is none, one may come later where a
-    // server was there before, or where it is early.
-    fn tried<A: Asks>(&mut self, asks: &mut A, is_early: bool) -> Result<Tried, ShellEnd> {
-        let Some(stream) = self.stream.take().or_else(|| stream_to(self.rt, self.servers)) else {
+    // Asks once, over the connection that there is or a new one. If there is none, one may come later where
+    // a server was there before, or where it is early.
+    fn tried<A: OpenRequest>(&mut self, asks: &mut A, is_early: bool) -> Result<Tried, ShellEnd> {
+        let Some(stream) = self
+            .stream
+            .take()
+            .or_else(|| connected_to_one(self.rt, self.servers))
+        else {
             return if self.was_there || is_early {
                 Ok(Tried::Lost)
             } else {
@@ -166,7 +171,8 @@ impl<'a> ShellClient<'a> {
         }
     }
 
-    // What is to be done after an end that is no reply, of a request that was asked before if it has this key.
+    // What is to be done after an end that is no reply, of a request that was asked before if it has this
+    // key.
     fn lost(&mut self, end: CallEnd, earlier: Option<Key>) -> Result<Tried, ShellEnd> {
         match end {
             CallEnd::Unheard(_)
@@ -202,7 +208,7 @@ impl<'a> ShellClient<'a> {
     }
 
     // Says hello and asks, over this connection.
-    fn asked_over<A: Asks>(
+    fn asked_over<A: OpenRequest>(
         &self,
         stream: &TcpStream,
         asks: &mut A,
@@ -215,16 +221,6 @@ impl<'a> ShellClient<'a> {
         let mut to = Sink::new(stream);
         asks.ask_once(self.rt.alloc(), new, &mut from, &mut to)
     }
-}
-
-/// A connection to the first of the servers, which have commas between them, that takes one.
-pub(crate) fn stream_to(rt: &HostRuntime, servers: &str) -> Option<TcpStream> {
-    for server in servers.split(',') {
-        if let Ok(stream) = connected(rt, server) {
-            return Some(stream);
-        }
-    }
-    None
 }
 
 /// A new incarnation: the microseconds since 1970.

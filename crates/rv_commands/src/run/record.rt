@@ -1,7 +1,7 @@
 //! The record of a command: a file that gets a line for each reply before it is printed.
-use crate::shell::end::ShellEnd;
-use crate::shell::printing::Settled;
-use rv_commands::record_line;
+use crate::record::record_line;
+use crate::run::end::ShellEnd;
+use crate::run::printing::SettledCall;
 use rv_frame::Sink;
 use std::alloc::Global;
 use std::fs::{File, OpenOptions};
@@ -22,23 +22,21 @@ impl<'a> Record<'a> {
             Ok(file) => Ok(Record {
                 file: Some((path, Sink::new(file))),
             }),
-            Err(error) => Err(ShellEnd::Unrecorded(
-                format!(in rt.alloc(); "record {path}: {error}")?,
-            )),
+            Err(error) => Err(ShellEnd::Unrecorded(format!(in rt.alloc();
+                "record {path}: {error}"
+            )?)),
         }
     }
 
     /// Appends the line of a reply, in one write.
-    pub(crate) fn append(&mut self, alloc: Global, settled: &Settled) -> Result<(), ShellEnd> {
+    pub(crate) fn append(&mut self, alloc: Global, settled: &SettledCall) -> Result<(), ShellEnd> {
         let Some((path, sink)) = &mut self.file else {
             return Ok(());
         };
         let line = record_line(alloc, &settled.key, &settled.call, &settled.reply)?;
         match sink.write_all(line.as_bytes()) {
             Ok(()) => Ok(()),
-            Err(fault) => Err(ShellEnd::Unrecorded(
-                format!(in alloc; "record {path}: {fault}")?,
-            )),
+            Err(fault) => Err(ShellEnd::Unrecorded(format!(in alloc; "record {path}: {fault}")?)),
         }
     }
 }

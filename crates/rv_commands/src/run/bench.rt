@@ -1,12 +1,14 @@
 //! `rv bench`: how many puts, takes and hand-overs a second a server does, at a queue where nothing waits.
-use crate::lease::Lease;
-use crate::shell::client::{new_incarnation, stream_to};
-use crate::shell::end::ShellEnd;
-use crate::shell::printing::Settled;
-use crate::shell::session::Session;
+use crate::run::client::new_incarnation;
+use crate::run::end::ShellEnd;
+use crate::run::leased::Lease;
+use crate::run::link::connected_to_one;
+use crate::run::printing::SettledCall;
+use crate::run::session::ShellSession;
 use rv_frame::{Frames, Sink, Source, write_frame};
 use rv_text::{
-    Answer, Call, Item, Key, MAX_BODY_BYTES, Message, Reply, Version, Wait, decode_answer, encode_message,
+    Answer, Call, Item, Key, MAX_BODY_BYTES, Message, Reply, Version, Wait, decode_answer,
+    encode_message,
 };
 use std::net::TcpStream;
 use std::time::{Clock, Duration};
@@ -40,13 +42,19 @@ struct Rates {
 /// that it puts it takes at once.
 pub(crate) fn run_bench(
     rt: &HostRuntime,
-    session: &Session,
-    counted: &Settled,
+    session: &ShellSession,
+    counted: &SettledCall,
 ) -> Result<u8, ShellEnd> {
     let Call::Count { queue } = &counted.call else {
         return Err(ShellEnd::NoMemory);
     };
-    if !matches!(&counted.reply, Reply::Counted { items: 0, consumers: 0 }) {
+    if !matches!(
+        &counted.reply,
+        Reply::Counted {
+            items: 0,
+            consumers: 0
+        }
+    ) {
         return Err(ShellEnd::Busy(*queue));
     }
     let few = rates_of(rt, session, *queue, FEW)?;
@@ -56,13 +64,20 @@ pub(crate) fn run_bench(
 
 // Prints the table.
 fn print_table(rt: &HostRuntime, few: Rates, many: Rates) -> Result<u8, ShellEnd> {
-    let text = format!(
-        in rt.alloc();
+    let text = format!(in rt.alloc();
         "{:<12}{:>12}{:>12}\n{:<12}{:>12}{:>12}\n{:<12}{:>12}{:>12}\n{:<12}{:>12}{:>12}\n",
-        "a second", "1 at a time", "16 at once",
-        "puts", few.puts, many.puts,
-        "takes", few.takes, many.takes,
-        "hand-overs", few.hand_overs, many.hand_overs
+        "a second",
+        "1 at a time",
+        "16 at once",
+        "puts",
+        few.puts,
+        many.puts,
+        "takes",
+        few.takes,
+        many.takes,
+        "hand-overs",
+        few.hand_overs,
+        many.hand_overs
     )?;
     let mut out = Sink::new(rt.stdout());
     match out.write_all(text.as_bytes()) {
@@ -74,7 +89,7 @@ fn print_table(rt: &HostRuntime, few: Rates, many: Rates) -> Result<u8, ShellEnd
 // The rates with so many requests under way at once, each over a connection of its own.
 fn rates_of(
     rt: &HostRuntime,
-    session: &Session,
+    session: &ShellSession,
     queue: u64,
     at_once: usize,
 ) -> Result<Rates, ShellEnd> {
@@ -101,7 +116,7 @@ impl<'a> Peers<'a> {
     // So many of them, each welcome.
     fn open(
         rt: &'a HostRuntime,
-        session: &Session,
+        session: &ShellSession,
         queue: u64,
         count: usize,
     ) -> Result<Peers<'a>, ShellEnd> {
@@ -225,9 +240,9 @@ struct Peer {
 
 impl Peer {
     // A connection whose client is welcome.
-    fn open(rt: &HostRuntime, session: &Session, queue: u64) -> Result<Peer, ShellEnd> {
+    fn open(rt: &HostRuntime, session: &ShellSession, queue: u64) -> Result<Peer, ShellEnd> {
         let lease = session.lease_more(rt)?;
-        let Some(stream) = stream_to(rt, session.servers()) else {
+        let Some(stream) = connected_to_one(rt, session.servers()) else {
             return Err(ShellEnd::NoServer);
         };
         let key = Key {

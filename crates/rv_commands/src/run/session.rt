@@ -1,7 +1,7 @@
 //! The session of a command: what its address and the environment say, and a client number that is leased.
-use crate::address::{Address, AddressFault, read_address};
-use crate::lease::{ClientRange, Lease, take_lease};
-use crate::shell::end::ShellEnd;
+use crate::run::address::{Address, AddressFault, read_address};
+use crate::run::end::ShellEnd;
+use crate::run::leased::{ClientRange, Lease, take_lease};
 use rv_text::Version;
 use std::env::{self, VarError};
 use std::time::Duration;
@@ -25,28 +25,26 @@ pub(crate) fn address_of(rt: &HostRuntime, named: Option<&str>) -> Result<String
 
 /// A session, whose client number is its own while this is there.
 #[derive(Drop)]
-pub(crate) struct Session<'a> {
+pub(crate) struct ShellSession<'a> {
     address: Address<'a>,
     lease: Lease,
 }
 
-impl<'a> Session<'a> {
+impl<'a> ShellSession<'a> {
     /// The session that an address and the environment name.
-    pub(crate) fn open(rt: &HostRuntime, text: &'a str) -> Result<Session<'a>, ShellEnd> {
+    pub(crate) fn open(rt: &HostRuntime, text: &'a str) -> Result<ShellSession<'a>, ShellEnd> {
         let mut address = match read_address(rt.alloc(), text) {
             Ok(address) => address,
             Err(AddressFault::NoMemory) => return Err(ShellEnd::NoMemory),
             Err(fault) => {
-                return Err(ShellEnd::Words(
-                    format!(in rt.alloc(); "address {text}: {fault}")?,
-                ));
+                return Err(ShellEnd::Words(format!(in rt.alloc(); "address {text}: {fault}")?));
             }
         };
         if address.record.is_none() {
             address.record = variable(rt, "RV_RECORD")?;
         }
         let lease = leased(rt, address.client)?;
-        Ok(Session { address, lease })
+        Ok(ShellSession { address, lease })
     }
 
     /// A further lease, beside the session's own, from the same numbers.
@@ -104,9 +102,9 @@ fn usual_range(rt: &HostRuntime) -> Result<ClientRange, ShellEnd> {
     };
     match ClientRange::of_text(text.as_str()) {
         Some(range) => Ok(range),
-        None => Err(ShellEnd::Words(
-            format!(in rt.alloc(); "RV_CLIENTS {text}: FIRST-LAST, as 1-512")?,
-        )),
+        None => Err(ShellEnd::Words(format!(in rt.alloc();
+            "RV_CLIENTS {text}: FIRST-LAST, as 1-512"
+        )?)),
     }
 }
 
@@ -115,8 +113,8 @@ fn variable(rt: &HostRuntime, name: &str) -> Result<Option<String>, ShellEnd> {
     match env::var(rt, name) {
         Ok(text) => Ok(Some(text)),
         Err(VarError::NotPresent) => Ok(None),
-        Err(_) => Err(ShellEnd::Words(
-            format!(in rt.alloc(); "{name}: no UTF-8, or no memory for it")?,
-        )),
+        Err(_) => Err(ShellEnd::Words(format!(in rt.alloc();
+            "{name}: no UTF-8, or no memory for it"
+        )?)),
     }
 }
