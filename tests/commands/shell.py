@@ -19,18 +19,18 @@ import unittest
 from collections.abc import Sequence
 
 from tests import left_out
-from tests.cases import Case, SideBySide
+from tests.cases import Case
 from tests.commands import shell_crowd
 from tests.commands.shelling import (
-    BAD_WORDS, CANCELLED, GREATEST, NAMELESS, NO_SERVER, NOBODY, NOT_KNOWN, REFUSED, TIMED_OUT, TOOK_PLACE, Answer, Ran, Scripted,
-    Shell, account_of, asked_so_far, done, ended, live, refuses, replies, requests, sends, still_waits, torn, welcomes)
+    BAD_WORDS, CANCELLED, GREATEST, NAMELESS, NO_SERVER, NOBODY, NOT_KNOWN, REFUSED, TIMED_OUT, TOOK_PLACE, Answer, AtOnce, Ran,
+    Scripted, Shell, account_of, asked_so_far, done, ended, live, refuses, replies, requests, sends, still_waits, torn, welcomes)
 from tests.model.account import Key, Request, reply
 from tests.names import cases_of
 from tests.sockets.hosts import Host, HostProgram, StoreProgram
 from tests.sockets.programs import Process, is_socket, paths_in, taken_port
 from tests.sockets.wire import PATIENCE, Members, Peer, cancel, frame, key_of, refused, replied, together, until, welcome
 
-COMMANDS = ["put", "take", "transfer", "drain", "count", "peek", "swap"]
+COMMANDS = ["put", "take", "transfer", "drain", "count", "peek", "swap", "bench"]
 # Where the lease of a client number is, by the page of the formats: ports from the first on, addresses from 127.64.0.0 on.
 FIRST_PORT, PORTS, ADDRESSES, FACTOR = 61_000, 4_096, 4_194_304, 2_654_435_761
 # The least client numbers, which a case takes; the tries until no other program of this machine is in the way.
@@ -73,6 +73,9 @@ ITEMS = ["", " ", "a b ", "'\"`$\\", "a\n\nb\n", "\t\x01\x1f\x7f", "\u00e9" * 25
          "3", "rv"]
 # These stand after two dashes.
 DASHED = ["-x", "--json", "--", "-1"]
+# Commands of which one dash is the item.
+ONE_DASH: list[tuple[list[str], Members]] = [
+    (["transfer", "3", "-", "--wait", "0s"], {"reply": "nobody"}), (["swap", "3", "-", "--wait", "0s"], {"reply": "timedout"})]
 TOO_LONG = "\u00e9" * 256 + "x"
 WAITS = ["", "5", "s", "5x", "5S", "5 s", " 5s", "+5s", "1.5s", "1e3s", "5sm", "25h", "86400001ms", "00000000000000000001s",
          "18446744073709551617s", "\u0665s", "5s\n", "now", "forever"]
@@ -80,7 +83,8 @@ TIME = "a number and ms, s, m or h, at most a day"
 # Words of which it is told what is wrong, and the line that tells it.
 TOLD: list[tuple[list[str], str]] = [
     *(([command, place, *more], f"QUEUE {place}: 0 to 63") for place in ["64", "77"] for command, *more in
-      [["put", "a"], ["take"], ["transfer", "a"], ["drain", "--max", "1"], ["count"], ["peek"], ["swap", "a"]]),
+      [["put", "a"], ["put", "-"], ["take"], ["transfer", "a"], ["drain", "--max", "1"], ["count"], ["peek"], ["bench"]]),
+    *((["swap", place, "a"], f"EXCHANGER {place}: 0 to 63") for place in ["64", "77", "", "x", "+3"]),
     *((["count", place], f"QUEUE {place}: 0 to 63") for place in ["", "x", "+3", "3.0", "0x3", " 3", "18446744073709551616"]),
     *(([command, "3", TOO_LONG], f"ITEM {TOO_LONG}: at most 512 bytes") for command in ["put", "transfer", "swap"]),
     *((["take", "3", "--wait", wait], f"--wait {wait}: {TIME}") for wait in WAITS),
@@ -93,15 +97,23 @@ TOLD: list[tuple[list[str], str]] = [
 NOT_UTF_8 = os.fsdecode(b"\xff")
 # Words that are none of the command's.
 WRONG: list[list[str]] = [
-    ["put"], ["take"], ["transfer"], ["drain"], ["count"], ["peek"], ["swap"],
+    ["put"], ["take"], ["transfer"], ["drain"], ["count"], ["peek"], ["swap"], ["bench"],
     ["put", "3"], ["transfer", "3"], ["swap", "3"], ["put", "3", "a", "b"], ["take", "3", "a"],
     ["count", "3", "4"], ["peek", "3", "4"], ["drain", "3"], ["drain", "3", "--max"], ["drain", "3", "--max", "1", "--max", "1"],
     ["put", "3", "a", "--wait", "1s"], ["count", "3", "--wait", "1s"], ["peek", "3", "--wait", "1s"], ["take", "3", "--wait"],
     ["take", "3", "--max", "1"], ["drain", "3", "--max", "1", "--wait", "1s"], ["take", "3", "--nul"], ["take", "3", "--null=1"],
     ["take", "3", "-x"], ["put", "3", "-x"], ["take", "--", "-1", "--null"], ["take", "3", "--client", "1"], ["put", "3", NOT_UTF_8],
+    ["put", "3", "-", "a"], ["put", "3", "-", "--wait", "1s"], ["bench", "3", "4"], ["bench", "3", "--json"], ["bench", "3", "--null"],
+    ["bench", "3", "--max", "1"], ["bench", "3", "--wait", "1s"],
 ]
-# Addresses that have what no address of a command has; the one of a server that listens stands for the braces.
-ADDRESSES_REFUSED = ["rv://{}?patience=5", "{}?client=3", "{}?", "rv://{}/", "{}/", "rv://", "", ",{}", "127.0.0.1:1,{}?record=x"]
+# Addresses that are none, and their first fault; the address of a server that listens stands for the braces.
+ADDRESSES_REFUSED = {
+    "rv://{}?patience=x": "option patience", "{}?client=3": "port of server 1", "{}?": "port of server 1",
+    "rv://{}?": "option 1 is empty", "rv://{}/": "port of server 1", "{}/": "port of server 1", "rv://": "host of server 1",
+    ",{}": "host of server 1", "{},": "host of server 2", "127.0.0.1:1,{}?record=x": "port of server 2",
+    "{0},{0}/": "port of server 2", "rv://{0},,{0}": "host of server 2", "rv://{}?client=1&x=1": "option x is unknown",
+    "rv://{}?version=2&version=2": "option version twice",
+}
 
 
 def last_take(host: Host) -> Key:
@@ -303,38 +315,32 @@ class Words(Case):
                 return ended(counts).status == REFUSED
 
     def test_addresses_refused(self) -> None:
-        """Addresses with options or more are bad words, and nothing is sent."""
+        """Addresses that are none are bad words, also where a server before the fault listens; nothing is sent."""
         with Scripted() as server:
-            for form in ADDRESSES_REFUSED:
+            for form, fault in ADDRESSES_REFUSED.items():
                 address = form.format(server.address)
                 for shell in [Shell(self.program, address), Shell(self.program, RV_SERVER=address)]:
-                    ran = shell.ran("take", "3")
                     name = f"{form} {'in the environment' if shell.address is None else 'named'}"
-                    self.check_equal(name, (ran.printed, ran.status, ran.said.count(b"\n")), (b"", BAD_WORDS, 1))
-        self.check_equal("nothing was sent", server.heard, [])
-
-    def test_a_later_address_refused(self) -> None:
-        """Also where a server before it listens."""
-        with Scripted() as server:
-            for form in ["{0},{0}?patience=5", "{},", "{0},{0}/", "rv://{0},,{0}"]:
-                ran = Shell(self.program, form.format(server.address)).ran("take", "3")
-                self.check_equal(form, (ran.printed, ran.status, ran.said.count(b"\n")), (b"", BAD_WORDS, 1))
+                    told = Ran(b"", f"address {address}: {fault}\n".encode(), BAD_WORDS)
+                    self.check_equal(name, shell.ran("take", "3"), told)
         self.check_equal("nothing was sent", server.heard, [])
 
     def test_the_local_server(self) -> None:
-        """Without a name it is the one at the port of this machine, where that is free for this case."""
+        """Without a name, or an empty one in the environment, it is the one at the port of this machine, where that is free for
+        this case."""
         try:
             local = socket.create_server(("127.0.0.1", LOCAL_PORT))
         except OSError as error:
             raise unittest.SkipTest(left_out.reason("the local server", str(error))) from None
-        with local, Shell(self.program).began("put", "3", "a") as giver:
-            local.settimeout(PATIENCE)
-            connection, _ = local.accept()
-            with connection, connection.makefile("rb") as source:
-                hello = source.read(int.from_bytes(source.read(2)))
-                connection.sendall(frame(b'{"code":9,"kind":"refused"}'))
-            self.check("a hello comes", b'"kind":"hello"' in hello, hello)
-            self.check_equal("it is refused", ended(giver).status, REFUSED)
+        local.settimeout(PATIENCE)
+        with local:
+            for name, shell in [("nameless", Shell(self.program)), ("an empty name", Shell(self.program, RV_SERVER=""))]:
+                with shell.began("put", "3", "a") as giver:
+                    with Peer(local.accept()[0]) as peer:
+                        hello = peer.hear() or b""
+                        peer.send(frame(refused(9)))
+                    self.check(f"{name}: a hello comes", b'"kind":"hello"' in hello, hello)
+                    self.check_equal(f"{name}: it is refused", ended(giver).status, REFUSED)
 
 
 DONE = replies(reply="done")
@@ -411,6 +417,13 @@ class ByScript(Case):
             self.check_equal(f"{name}: lines", ran.said.count(b"\n"), int(said != b""))
             self.check(f"{name}: said", ran.said.startswith(said), ran.said)
             self.check_equal(f"{name}: frames", [len(each) for each in heard], [len(answers)])
+
+    def test_one_dash(self) -> None:
+        """One dash is a put's standard input alone: to a transfer or swap it is an item."""
+        for words, reply in ONE_DASH:
+            ran, heard = self.at_a_script([[welcomes(), replies(**reply)]], *words)
+            self.check_equal(f"{words}: printed, said", (ran.printed, ran.said), (b"", b""))
+            self.check_equal(f"{words}: items", [each[1]["item"] for each in heard], ["-"])
 
     def test_broken(self) -> None:
         """After whatever settles nothing the same hello and request come over another connection, and the reply counts once."""
@@ -660,12 +673,6 @@ class Crowds(Case):
             self.check_equal(f"{name}: what came of them", shell_crowd.told_by(ran), shell_crowd.told_by_account(account))
             self.check_faults((f"{name}: {fault}", fault) for fault in shell_crowd.faults_of_bodies(ran, account))
             self.check_equal(f"{name}: handed over twice", shell_crowd.handed_twice(ran), [])
-
-
-class AtOnce(SideBySide):
-    """Many of its cases at once, since they mostly wait."""
-
-    at_once = 8
 
 
 def load_tests(_: unittest.TestLoader, suite: unittest.TestSuite, __: str | None) -> unittest.TestSuite:

@@ -7,8 +7,9 @@ import os
 import socket
 import subprocess
 from collections.abc import Callable, Iterator, Sequence
-from typing import IO, NamedTuple
+from typing import IO, Any, NamedTuple
 
+from tests.cases import SideBySide
 from tests.model import lines
 from tests.model.account import Account, Key, Request
 from tests.sockets.hosts import Host, HostProgram
@@ -19,8 +20,8 @@ from tests.sockets.wire import PATIENCE, Members, Peer, demand, frame, key_of, m
 GREATEST = 9_007_199_254_740_991
 # The exit statuses.
 TOOK_PLACE, NO_SERVER, BAD_WORDS, NOBODY, TIMED_OUT, CANCELLED, NOT_KNOWN, REFUSED = range(8)
-# The environment, in which no server is named.
-NAMELESS = {name: value for name, value in os.environ.items() if name != "RV_SERVER"}
+# The environment, in which no server is named, no client numbers, and no record.
+NAMELESS = {name: value for name, value in os.environ.items() if name not in ("RV_SERVER", "RV_CLIENTS", "RV_RECORD")}
 
 
 class Ran(NamedTuple):
@@ -46,15 +47,15 @@ class Shell:
         """The first words of a command: the program, the command, and the server if one is named."""
         return [self.program, command, *([] if self.address is None else ["--connect", self.address])]
 
-    def ran(self, command: str, *words: str, stdout: int | IO[bytes] = subprocess.PIPE) -> Ran:
-        """Runs a command to its end."""
-        ran = subprocess.run([*self.front(command), *words], stdin=subprocess.DEVNULL, stdout=stdout, stderr=subprocess.PIPE,
+    def ran(self, command: str, *words: str, given: bytes = b"", stdout: int | IO[bytes] = subprocess.PIPE) -> Ran:
+        """Runs a command to its end, with what its standard input is given."""
+        ran = subprocess.run([*self.front(command), *words], input=given, stdout=stdout, stderr=subprocess.PIPE,
                              env=self.environment, timeout=PATIENCE)
         return Ran(ran.stdout or b"", ran.stderr, ran.returncode)
 
-    def began(self, command: str, *words: str) -> Process:
+    def began(self, command: str, *words: str, **more: Any) -> Process:
         """A command that runs beside what follows, and is killed at the end of its block, if it still runs."""
-        return Process([*self.front(command), *words], env=self.environment)
+        return Process([*self.front(command), *words], env=self.environment, **more)
 
 
 def ended(process: Process) -> Ran:
@@ -145,3 +146,9 @@ def live(program: str) -> Iterator[tuple[Host, Shell]]:
         host.ended()
         ran = Shell(program).ran("verify", str(host.file))
         demand(ran == done(b"legal\n"), f"rv verify says {ran} of the account")
+
+
+class AtOnce(SideBySide):
+    """Many of its cases at once, since they mostly wait."""
+
+    at_once = 8
