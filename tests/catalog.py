@@ -15,6 +15,7 @@ MODULES = [
     "commands.calls",
     "commands.ends",
     "commands.shell",
+    "commands.shell_lines",
     "commands.bodies",
     "commands.rows",
     "commands.audits",

@@ -22,8 +22,9 @@ from tests import left_out
 from tests.cases import Case
 from tests.commands import shell_crowd
 from tests.commands.shelling import (
-    BAD_WORDS, CANCELLED, GREATEST, NAMELESS, NO_SERVER, NOBODY, NOT_KNOWN, REFUSED, TIMED_OUT, TOOK_PLACE, Answer, AtOnce, Ran,
-    Scripted, Shell, account_of, asked_so_far, done, ended, live, refuses, replies, requests, sends, still_waits, torn, welcomes)
+    BAD_WORDS, CANCELLED, DONE, GREATEST, ITEM, LAPSED, NAMELESS, NO_SERVER, NOBODY, NOT_KNOWN, REFUSED, TIMED_OUT, TOOK_PLACE,
+    UNKNOWN, Answer, AtOnce, Ran, Scripted, Shell, account_of, asked_so_far, check_unknown, cut, done, ended, live, refuses, replies,
+    requests, sends, still_waits, torn, welcomes)
 from tests.model.account import Key, Request, reply
 from tests.names import cases_of
 from tests.sockets.hosts import Host, HostProgram, StoreProgram
@@ -228,13 +229,6 @@ class Met(Case):
                     self.check_equal("nothing is asked", requests(after), [])
 
 
-def check_unknown(case: Case, name: str, ran: Ran, key: Key) -> None:
-    """Checks that the outcome of this key's request isn't known, and that one line tells the key, and how to ask again."""
-    wanted = [f"client {key.client}", f"incarnation {key.incarnation}", f"epoch {key.epoch}", "rv call "]
-    case.check_equal(f"{name}: printed, status, lines", (ran.printed, ran.status, ran.said.count(b"\n")), (b"", NOT_KNOWN, 1))
-    case.check_equal(f"{name}: told", [words for words in wanted if not re.search(rf"{words}(?!\d)", ran.said.decode())], [])
-
-
 def pauses(process: Process) -> bool:
     """Whether a command that has its client number sleeps."""
     folder = f"/proc/{process.process.pid}"
@@ -343,16 +337,6 @@ class Words(Case):
                     self.check_equal(f"{name}: it is refused", ended(giver).status, REFUSED)
 
 
-DONE = replies(reply="done")
-ITEM = replies(reply="item", item="a")
-LAPSED = replies(reply="timedout")
-
-
-def cut(_: Members) -> bytes:
-    """No answer: the connection ends."""
-    return b""
-
-
 def foreign(hello: Members) -> bytes:
     """The welcome of another client."""
     return frame(welcome(hello["client"] + 1, 1, hello["incarnation"], 2))
@@ -377,16 +361,6 @@ BROKEN: dict[str, list[Answer]] = {
     "no answer's text": [welcomes(), sends(frame(b"{}"))],
     "it waits": [welcomes(), still_waits],
     "another's reply": [welcomes(), of_another],
-}
-# What meets it when it comes again after its request was cut, so that its outcome isn't known.
-UNKNOWN: dict[str, list[Answer]] = {
-    "a greater epoch": [welcomes(2)],
-    "clients full": [refuses(9)],
-    "a newer incarnation": [refuses(4, current=GREATEST)],
-    "an epoch that is full": [welcomes(), refuses(10)],
-    "an epoch that ended": [welcomes(), refuses(2, current=2)],
-    "no session": [welcomes(), refuses(3)],
-    "replaced": [welcomes(), refuses(4, current=GREATEST)],
 }
 # What meets it at its one connection, the status, and how the line on standard error begins.
 AT_ONCE: dict[str, tuple[list[Answer], int, bytes]] = {

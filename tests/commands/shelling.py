@@ -4,12 +4,13 @@ from __future__ import annotations
 
 import contextlib
 import os
+import re
 import socket
 import subprocess
 from collections.abc import Callable, Iterator, Sequence
 from typing import IO, Any, NamedTuple
 
-from tests.cases import SideBySide
+from tests.cases import Case, SideBySide
 from tests.model import lines
 from tests.model.account import Account, Key, Request
 from tests.sockets.hosts import Host, HostProgram
@@ -56,6 +57,15 @@ class Shell:
     def began(self, command: str, *words: str, **more: Any) -> Process:
         """A command that runs beside what follows, and is killed at the end of its block, if it still runs."""
         return Process([*self.front(command), *words], env=self.environment, **more)
+
+
+def writes(process: Process, data: bytes, ends: bool = False) -> None:
+    """Gives a command that runs more of its standard input, which may end then."""
+    assert process.process.stdin
+    process.process.stdin.write(data)
+    process.process.stdin.flush()
+    if ends:
+        process.process.stdin.close()
 
 
 def ended(process: Process) -> Ran:
@@ -120,9 +130,42 @@ def torn(answer: Answer, most: int) -> Answer:
     return lambda heard: answer(heard)[:most]
 
 
+def cut(_: Members) -> bytes:
+    """No answer: the connection ends."""
+    return b""
+
+
+DONE = replies(reply="done")
+ITEM = replies(reply="item", item="a")
+LAPSED = replies(reply="timedout")
+# What meets a command when it comes again after its request was cut, so that its outcome isn't known.
+UNKNOWN: dict[str, list[Answer]] = {
+    "a greater epoch": [welcomes(2)],
+    "clients full": [refuses(9)],
+    "a newer incarnation": [refuses(4, current=GREATEST)],
+    "an epoch that is full": [welcomes(), refuses(10)],
+    "an epoch that ended": [welcomes(), refuses(2, current=2)],
+    "no session": [welcomes(), refuses(3)],
+    "replaced": [welcomes(), refuses(4, current=GREATEST)],
+}
+
+
+def check_unknown(case: Case, name: str, ran: Ran, key: Key, printed: bytes = b"") -> None:
+    """Checks that the outcome of this key's request isn't known, and that one line tells the key, and how to ask again, after what
+    was printed before."""
+    wanted = [f"client {key.client}", f"incarnation {key.incarnation}", f"epoch {key.epoch}", "rv call "]
+    case.check_equal(f"{name}: printed, status, lines", (ran.printed, ran.status, ran.said.count(b"\n")), (printed, NOT_KNOWN, 1))
+    case.check_equal(f"{name}: told", [words for words in wanted if not re.search(rf"{words}(?!\d)", ran.said.decode())], [])
+
+
 def requests(host: Host) -> list[Request]:
     """The requests in the account of a host that runs, in the order in which they came."""
     return [entry.act for entry in account_of(host).entries if isinstance(entry.act, Request)]
+
+
+def keys_and_items(host: Host) -> list[tuple[Key, str | None]]:
+    """The keys and items of the requests that came to a host."""
+    return [(asked.key, asked.call.item) for asked in requests(host)]
 
 
 def account_of(host: Host) -> Account:
