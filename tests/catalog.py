@@ -16,6 +16,7 @@ MODULES = [
     "commands.ends",
     "commands.shell",
     "commands.shell_lines",
+    "commands.shell_sessions",
     "commands.bodies",
     "commands.rows",
     "commands.audits",

@@ -16,11 +16,13 @@ import subprocess
 import tempfile
 import time
 import unittest
+from collections import Counter
 from collections.abc import Sequence
 
 from tests import left_out
 from tests.cases import Case
 from tests.commands import shell_crowd
+from tests.commands.leasing import is_free, leased, place_of
 from tests.commands.shelling import (
     BAD_WORDS, CANCELLED, DONE, GREATEST, ITEM, LAPSED, NAMELESS, NO_SERVER, NOBODY, NOT_KNOWN, REFUSED, TIMED_OUT, TOOK_PLACE,
     UNKNOWN, Answer, AtOnce, Ran, Scripted, Shell, account_of, asked_so_far, check_unknown, cut, done, ended, live, refuses, replies,
@@ -32,8 +34,6 @@ from tests.sockets.programs import Process, is_socket, paths_in, taken_port
 from tests.sockets.wire import PATIENCE, Members, Peer, cancel, frame, key_of, refused, replied, together, until, welcome
 
 COMMANDS = ["put", "take", "transfer", "drain", "count", "peek", "swap", "bench"]
-# Where the lease of a client number is, by the page of the formats: ports from the first on, addresses from 127.64.0.0 on.
-FIRST_PORT, PORTS, ADDRESSES, FACTOR = 61_000, 4_096, 4_194_304, 2_654_435_761
 # The least client numbers, which a case takes; the tries until no other program of this machine is in the way.
 LEAST, TRIES = 8, 20
 # The server where none is named.
@@ -446,15 +446,16 @@ class ByScript(Case):
         self.check_equal("frames", [len(each) for each in heard], [2, 1])
 
     def test_how_to_ask_again(self) -> None:
-        """The words of `rv call` that a line of an unknown outcome has ask the same again."""
-        with Scripted([welcomes(), cut], [refuses(9)], [welcomes(), DONE]) as server:
-            said = Shell(self.program, server.address).ran("put", "3", "a").said.decode()
-            words = shlex.split(said[said.index("rv call ") :])
-            asked = [server.address if word == "ADDR" else word for word in words[1:]]
-            ran = subprocess.run([self.program, *asked], env=NAMELESS, capture_output=True,
-                                 input=b'{"call":"put","item":"a","queue":3}\n', timeout=PATIENCE)
-        self.check_equal("what was asked", server.heard[2:], server.heard[:1])
-        self.check_equal("it is told", ran.stdout, replied(key_of(server.heard[0][1]), reply="done") + b"\n")
+        """The words of `rv call` that a line of an unknown outcome has ask the same again, in the same version."""
+        for form in ["{}", "rv://{}?version=1", "rv://{}?version=2"]:
+            with Scripted([welcomes(), cut], [refuses(9)], [welcomes(), DONE]) as server:
+                said = Shell(self.program, form.format(server.address)).ran("put", "3", "a").said.decode()
+                words = shlex.split(said[said.index("rv call ") :])
+                asked = [server.address if word == "ADDR" else word for word in words[1:]]
+                ran = subprocess.run([self.program, *asked], env=NAMELESS, capture_output=True,
+                                     input=b'{"call":"put","item":"a","queue":3}\n', timeout=PATIENCE)
+            self.check_equal(f"{form}: what was asked", server.heard[2:], server.heard[:1])
+            self.check_equal(f"{form}: it is told", ran.stdout, replied(key_of(server.heard[0][1]), reply="done") + b"\n")
 
     def test_an_old_incarnation(self) -> None:
         """The next incarnation after the one that the server has is taken, if there is one."""
@@ -510,31 +511,6 @@ class ByScript(Case):
         self.check_equal("epochs", [each[1]["epoch"] for each in heard], [1, 1, 1, 2])
         ran, heard = self.at_a_script([*script[:2], [welcomes(2), ITEM]], "take", "3", "--wait", "25s")
         check_unknown(self, "a new epoch within a piece", ran, key_of(heard[1][1]))
-
-
-def place_of(number: int, user: int) -> tuple[str, int]:
-    """Where a user's lease of a client number is."""
-    host = (user + FACTOR * (number // PORTS)) % ADDRESSES
-    return f"127.{64 + host // 65_536}.{host // 256 % 256}.{host % 256}", FIRST_PORT + number % PORTS
-
-
-def leased(number: int) -> socket.socket | None:
-    """The lease of a number; none where somebody has it."""
-    holder = socket.socket(socket.AF_INET, socket.SOCK_DGRAM)
-    try:
-        holder.bind(place_of(number, os.geteuid()))
-    except OSError:
-        holder.close()
-        return None
-    return holder
-
-
-def is_free(number: int) -> bool:
-    """Whether nobody has the lease of a number."""
-    holder = leased(number)
-    if holder:
-        holder.close()
-    return holder is not None
 
 
 class Leases(Case):
@@ -638,15 +614,22 @@ class Crowds(Case):
     is_random = True
 
     def test_side_by_side(self) -> None:
-        """Random scripts at one host: by their account, what they printed and ended with is what was told."""
-        for number in range(self.fixture.many(2)):
-            with live(self.program) as (host, shell):
-                ran = shell_crowd.commands_ran(shell, f"{self.seed} {number}")
-                account = account_of(host)
+        """Random scripts at one host: by their account, what they printed and ended with is what was told, and their records have
+        all of it."""
+        hosts = self.fixture.many(2)
+        for number in range(hosts):
+            with tempfile.TemporaryDirectory(prefix="rv-records-") as folder, Host(HostProgram(self.program)) as host:
+                ran = shell_crowd.commands_ran(Shell(self.program, f"127.0.0.1:{host.port}"), f"{self.seed} {number}", folder)
+                account = host.ended()
+                recorded = shell_crowd.keys_recorded(folder)
+                found = list(shell_crowd.faults_of_records(self.program, str(host.file), folder))
             name = f"seed {self.seed}, host {number}"
             self.check_equal(f"{name}: what came of them", shell_crowd.told_by(ran), shell_crowd.told_by_account(account))
             self.check_faults((f"{name}: {fault}", fault) for fault in shell_crowd.faults_of_bodies(ran, account))
             self.check_equal(f"{name}: handed over twice", shell_crowd.handed_twice(ran), [])
+            self.check_faults((f"{name}: {record}", fault) for record, fault in found)
+            self.check_equal(f"{name}: a line each", recorded, Counter(asked.key for asked, _ in shell_crowd.replies_of(account)))
+        self.told = f"{hosts * shell_crowd.SCRIPTS} scripts"
 
 
 def load_tests(_: unittest.TestLoader, suite: unittest.TestSuite, __: str | None) -> unittest.TestSuite:

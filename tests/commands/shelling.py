@@ -102,7 +102,7 @@ class Scripted(Listening):
 
 def welcomes(epoch: int = 1) -> Answer:
     """The welcome of whoever says hello."""
-    return lambda hello: frame(welcome(hello["client"], epoch, hello["incarnation"], hello["version"]))
+    return lambda hello: frame(welcome(hello["client"], epoch, hello["incarnation"], hello.get("version", 1)))
 
 
 def replies(**reply: object) -> Answer:
