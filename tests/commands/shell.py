@@ -261,11 +261,13 @@ class Words(Case):
         self.check_equal("nothing was sent", server.heard, [])
 
     def test_help(self) -> None:
-        """Help is printed, and is no fault."""
+        """Help is printed, and is no fault; it tells by which name a queue or an exchanger is given."""
         for command in COMMANDS:
             ran = Shell(self.program).ran(command, "--help")
             self.check_equal(f"{command} --help", (ran.said, ran.status), (b"", TOOK_PLACE))
             self.check(f"{command} --help tells", f"{command} ".encode() in ran.printed and b"--connect" in ran.printed, ran.printed)
+            places = [place for place in (b"<QUEUE>", b"<EXCHANGER>") if place in ran.printed]
+            self.check_equal(f"{command} --help's place", places, [b"<EXCHANGER>" if command == "swap" else b"<QUEUE>"])
 
     def test_servers(self) -> None:
         """The server is the one of the words, else the environment's, of several the first that listens."""

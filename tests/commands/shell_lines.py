@@ -9,7 +9,7 @@ from collections.abc import Sequence
 
 from tests.cases import Case
 from tests.commands.shelling import (
-    BAD_WORDS, DONE, NO_SERVER, NOBODY, REFUSED, UNKNOWN, Answer, AtOnce, Ran, Scripted, Shell, asked_so_far, check_unknown,
+    BAD_WORDS, DONE, GREATEST, NO_SERVER, NOBODY, REFUSED, UNKNOWN, Answer, AtOnce, Ran, Scripted, Shell, asked_so_far, check_unknown,
     cut, done, ended, keys_and_items, live, refuses, requests, still_waits, torn, welcomes, writes)
 from tests.model.account import Key
 from tests.names import cases_of
@@ -255,6 +255,15 @@ class ByScript(Case):
         self.check_equal("refused: printed, status", (ran.printed, ran.status), (b"done\n", REFUSED))
         self.check("refused: said", ran.said.startswith(b"refused 9: ") and ran.said.count(b"\n") == 1, ran.said)
         self.check_equal("refused: frames", [len(each) for each in heard], [3])
+
+    def test_an_old_incarnation(self) -> None:
+        """The next incarnation after the one that the server has is taken, also by a later line, and those after it go on from there."""
+        current = GREATEST - 9
+        ran, (first, second) = self.at_a_script([[welcomes(), DONE, refuses(4, current=current)], [welcomes(), DONE] * 2], b"a\nb\nc\n")
+        self.check_equal("all are told", ran, done(b"done\n" * 3))
+        client = first[0]["client"]
+        wanted = [(Key(1, client, current + 1, 1), "b"), (Key(1, client, current + 2, 1), "c")]
+        self.check_equal("what was asked", [(key_of(asked), asked["item"]) for asked in second[1::2]], wanted)
 
     def test_gone(self) -> None:
         """A server that is gone for longer than the patience: a put that it got isn't known, one that it didn't get came to nothing."""
