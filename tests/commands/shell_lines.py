@@ -14,7 +14,7 @@ from tests.commands.shelling import (
 from tests.model.account import Key
 from tests.names import cases_of
 from tests.sockets.hosts import Host, HostProgram, StoreProgram
-from tests.sockets.programs import Process
+from tests.sockets.programs import Process, taken_port
 from tests.sockets.wire import Members, key_of, members_of, replied, until
 
 # How many lines are put at once.
@@ -160,9 +160,7 @@ class Lines(Case):
 
     def test_no_server(self) -> None:
         """Where nobody listens that is told, also before the input has ended."""
-        with Scripted() as server:
-            shell = Shell(self.program, server.address)
-        with shell.began("put", "3", "-") as puts:
+        with taken_port() as port, Shell(self.program, f"127.0.0.1:{port}").began("put", "3", "-") as puts:
             ran = ended(puts)
         self.check_equal("it is told", (ran.printed, ran.status, ran.said.count(b"\n")), (b"", NO_SERVER, 1))
 

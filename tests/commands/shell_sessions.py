@@ -27,6 +27,7 @@ from tests.commands.shelling import (
     Scripted, Shell, asked_so_far, cut, done, ended, live, refuses, replies, requests, welcomes)
 from tests.names import cases_of
 from tests.sockets.hosts import Host, HostProgram
+from tests.sockets.programs import taken_port
 from tests.sockets.wire import PATIENCE, Members, give, key_of, members_of, record_line, swap, take, until
 
 ADDRESSES = ROOT / "clients/addresses.jsonl"
@@ -100,11 +101,10 @@ class Addresses(Case):
                 self.check(f"{address!r}: its number is told", re.search(rf"\b{number}\b", ran.said.decode()), ran.said)
 
     def test_servers(self) -> None:
-        """With options too the first server that listens is asked, also by a name."""
-        with live(self.program) as (host, shell), Scripted() as closed:
-            closed.close()
-            up = str(shell.address)
-            for address in [f"rv://{up}?patience=5", f"rv://{closed.address},{up}?version=2&patience=0.5", f"rv://localhost:{host.port}"]:
+        """With options too the first server that listens is asked."""
+        with live(self.program) as (_, shell), taken_port() as port:
+            up, down = str(shell.address), f"127.0.0.1:{port}"
+            for address in [f"rv://{up}?patience=5", f"rv://{down},{up}?version=2&patience=0.5", f"rv://{down},{down},{up},{down}?version=1"]:
                 self.check_equal(address, Shell(self.program, address).ran("count", "3"), done(b"0 0\n"))
 
     def test_patience(self) -> None:
@@ -447,9 +447,8 @@ class Benches(Case):
 
     def test_without_a_server(self) -> None:
         """Without a server, or where one is lost or refuses, that is told."""
-        with Scripted() as server:
-            shell = Shell(self.program, server.address)
-        told_once(self, "none listens", shell.ran("bench", "3"), NO_SERVER)
+        with taken_port() as port:
+            told_once(self, "none listens", Shell(self.program, f"127.0.0.1:{port}").ran("bench", "3"), NO_SERVER)
         scripts: list[tuple[str, list[list[Answer]], int]] = [
             ("the count is refused", [[welcomes(), refuses(10)]], REFUSED),
             ("a client is refused", [[welcomes(), COUNTED], [refuses(9)]], REFUSED),
