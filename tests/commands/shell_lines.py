@@ -4,6 +4,7 @@ from __future__ import annotations
 
 import os
 import tempfile
+import time
 import unittest
 from collections.abc import Sequence
 
@@ -59,6 +60,8 @@ LOST: dict[str, list[Answer]] = {
 # Connections that end at once, more than a command tries within its patience.
 GONE: list[list[Answer]] = [[]] * 100
 IMPATIENT = "rv://{}?patience=0.5"
+# The patience, in seconds, after which a line comes late.
+LATE = 3
 
 
 def not_put(line: int) -> bytes:
@@ -269,6 +272,17 @@ class ByScript(Case):
         check_unknown(self, "it got it", ran, key_of(heard[0][3]), b"done\n")
         ran, heard = self.at_a_script([[welcomes(), DONE, cut], *GONE], b"a\nb\nc\n", IMPATIENT)
         self.check_equal("it didn't", (ran.printed, ran.status, ran.said.count(b"\n")), (b"done\n", NO_SERVER, 1))
+
+    def test_a_line_that_comes_late(self) -> None:
+        """The patience is for a server that is lost, and not for the input: a line that comes later than that is put over another
+        connection too."""
+        with Scripted([welcomes(), DONE], [welcomes(), DONE]) as server:
+            with Shell(self.program, f"rv://{server.address}?patience={LATE}").began("put", "3", "-") as puts:
+                puts_first(puts)
+                time.sleep(LATE + 0.2)
+                writes(puts, b"b\n", ends=True)
+                self.check_equal("both are told", ended(puts), done(b"done\n" * 2))
+        self.check_equal("what was put", [asked["item"] for _, asked in server.heard], ["a", "b"])
 
     def test_another_epoch(self) -> None:
         """A line that wasn't asked before is asked in whatever epoch comes."""
