@@ -17,6 +17,7 @@ import threading
 import time
 import unittest
 import urllib.parse
+from collections import Counter
 from collections.abc import Sequence
 
 from tests import ROOT
@@ -28,7 +29,7 @@ from tests.commands.shelling import (
 from tests.names import cases_of
 from tests.sockets.hosts import Host, HostProgram
 from tests.sockets.programs import taken_port
-from tests.sockets.wire import PATIENCE, Members, give, key_of, members_of, record_line, swap, take, until
+from tests.sockets.wire import PATIENCE, Members, give, key_of, members_of, record_line, swap, take, together, until
 
 ADDRESSES = ROOT / "clients/addresses.jsonl"
 # The numbers that are leased where nothing is said: anybody may have one for long.
@@ -41,6 +42,8 @@ NOT_UTF_8 = os.fsdecode(b"\xff")
 GONE: list[list[Answer]] = [[]] * 100
 COUNTED = replies(reply="counted", items=0, consumers=0)
 RECEIVED = replies(reply="received", by_client=7, by_incarnation=8, by_number=9)
+# The lines of each of the commands that share a record.
+SHARED = 50
 # What `rv bench` prints.
 TABLE = re.compile(rb"a second +1 at a time +16 at once\nputs +(\d+) +(\d+)\ntakes +(\d+) +(\d+)\nhand-overs +(\d+) +(\d+)\n")
 WAITING = re.compile(rb"waiting since (\w{3}, \d\d \w{3} \d{4} \d\d:\d\d:\d\d GMT)\r\n")
@@ -232,16 +235,39 @@ class Records(Case):
                 for (command, *words), given in commands:
                     shell.ran(command, *words, given=given)
                 Shell(self.program, address, RV_RECORD="").ran("count", "3")
-                host.ended()
                 asked = [key_of(members) for members in lines_of(record)]
                 self.check_equal(f"{name}: a line each", asked, [call.key for call in requests(host)][:-1])
-                self.check("there are more lines than commands", len(asked) == len(commands) + 2, asked)
+                self.check_equal(f"{name}: of lines too", len(asked), len(commands) + 2)
                 self.check_equal(f"{name}: no other", other.exists(), False)
-                ran = subprocess.run([self.program, "verify", str(host.file), "--replies", str(record)], capture_output=True,
-                                     timeout=PATIENCE)
-                self.check_equal(f"{name}: verified", (ran.returncode, ran.stderr), (0, b""))
-                kept = [b"%d kept" % number for number in range(1, len(asked) + 1)]
-                self.check_equal(f"{name}: each is kept", ran.stdout.splitlines()[: len(asked) + 1], [b"legal", *kept])
+                self.check_kept(name, host, record, len(asked))
+
+    def check_kept(self, name: str, host: Host, record: pathlib.Path, count: int) -> None:
+        """Checks, by the program's own word, that the account of a host, which ends, keeps so many lines of a record, and that there
+        is no other."""
+        host.ended()
+        ran = subprocess.run([self.program, "verify", str(host.file), "--replies", str(record)], capture_output=True, timeout=PATIENCE)
+        self.check_equal(f"{name}: verified", (ran.returncode, ran.stderr), (0, b""))
+        kept = [b"legal", *(b"%d kept" % number for number in range(1, count + 1)), b"kept %d" % count]
+        self.check_equal(f"{name}: each is kept", ran.stdout.splitlines()[: len(kept)], kept)
+
+    def test_shared(self) -> None:
+        """Commands that run at once, in both versions, may share a record: each line in it is whole, and kept."""
+        with tempfile.TemporaryDirectory(prefix="rv-record-") as folder, Host(HostProgram(self.program)) as host:
+            record = pathlib.Path(folder, "told.jsonl")
+            address = f"rv://127.0.0.1:{host.port}?record={urllib.parse.quote(str(record))}&version="
+            first, second = Shell(self.program, f"{address}1"), Shell(self.program, f"{address}2")
+            for number, (taker, giver) in enumerate([(first, second), (second, first), (first, first), (second, second)]):
+                with taker.began("take", "3") as takes:
+                    asked_so_far(host, 2 * number + 1)
+                    ran = giver.ran("transfer", "3", "a")
+                    self.check_equal(f"hand-over {number}", (ran.status, ended(takes)), (TOOK_PLACE, done(b"a\n")))
+            given = [f"{number}\n".encode() * SHARED for number in range(4)]
+            for ran in together(*(lambda shell=shell, lines=lines: shell.ran("put", "4", "-", given=lines)
+                                  for shell, lines in zip([first, second] * 2, given))):
+                self.check_equal("lines at once", ran, done(b"done\n" * SHARED))
+            self.check_equal("a line each", Counter(key_of(members) for members in lines_of(record)),
+                             Counter(call.key for call in requests(host)))
+            self.check_kept("shared", host, record, 8 + 4 * SHARED)
 
     def recorded(self, script: Sequence[Sequence[Answer]], *words: str, given: bytes = b"") -> tuple[Ran, list[list[Members]], bytes]:
         """What comes of a command at a script, what was heard, by connections, and the record."""
