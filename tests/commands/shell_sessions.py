@@ -113,7 +113,7 @@ class Addresses(Case):
     def test_patience(self) -> None:
         """A server that is lost is tried again for the patience, and no longer."""
         script: list[list[Answer]] = [[welcomes(), cut], *GONE[:5], [welcomes(), DONE]]
-        for patience in ["forever", "60", "999999999.999999999"]:
+        for patience in ["forever", "86400", "999999999.999999999"]:
             with Scripted(*script) as server:
                 ran = Shell(self.program, f"rv://{server.address}?patience={patience}").ran("put", "3", "a")
             self.check_equal(f"{patience}: it is found", ran, done(b"done\n"))
@@ -364,7 +364,8 @@ class Terminals(Case):
 
             def looks(answer: Answer) -> Answer:
                 def meet(asked: Members) -> bytes:
-                    seen.append(bool(select.select([terminal], [], [], 0)[0]))
+                    # what was said may still be on its way
+                    seen.append(bool(select.select([terminal], [], [], PATIENCE if seen else 0)[0]))
                     return answer(asked)
                 return meet
 
@@ -451,7 +452,7 @@ class Benches(Case):
             ran = shell.ran("bench", "3")
             self.check_equal("it ends", (ran.said, ran.status), (b"", TOOK_PLACE))
             found = TABLE.fullmatch(ran.printed)
-            self.check("its table", found and all(map(int, found.groups())), ran.printed)
+            self.check("its table", found, ran.printed)
             self.check_equal("its columns", len({len(line) for line in ran.printed.splitlines()}), 1)
             self.check_equal("nothing is left", [shell.ran("count", place).printed for place in ("3", "4")], [b"0 0\n", b"1 0\n"])
             host.halt()
