@@ -20,6 +20,8 @@ from tests.sockets.wire import Members, key_of, members_of, replied, until
 
 # How many lines are put at once.
 MANY = 3_000
+# The lines of an input in which the host is killed, and how many of them are told before each kill.
+OVER_KILLS, KILLS = 100, (5, 30, 70)
 # Inputs, and the items that they are.
 INPUTS: list[tuple[bytes, list[str]]] = [
     (b"", []),
@@ -186,6 +188,20 @@ class Lines(Case):
                     writes(puts, b"b", ends=True)
                     self.check_equal("both are told", ended(puts), done(b"done\n" * 2))
                     self.check_equal("in the next epoch", [item for _, item in keys_and_items(after)], ["b"])
+
+    def test_a_host_that_is_killed(self) -> None:
+        """At a store a host may be killed whenever it is: each line is put once, in order, and told once."""
+        items = [f"line {number}" for number in range(OVER_KILLS)]
+        with Host(StoreProgram(self.program), None) as host:
+            host.told_start()
+            with Shell(self.program, f"127.0.0.1:{host.port}").began("put", "3", "-") as puts:
+                writes(puts, "\n".join(items).encode(), ends=True)
+                for count in KILLS:
+                    until(f"{count} are told, or it ends", lambda: len(puts.printed) >= 5 * count or not puts.runs())
+                    host.start_again()
+                self.check_equal("all are told", ended(puts), done(b"done\n" * OVER_KILLS))
+            self.check_equal("each came once", [item for _, item in keys_and_items(host)], items)
+            host.ended()
 
     def test_a_host_that_ends(self) -> None:
         """A host that ends between two lines is tried again for the patience, and then it is told that there is none."""
