@@ -33,63 +33,43 @@ module _ {B R W : Type 0} (bytes : B → Option (List ℕ)) (remaining : R → O
 
   -- an end that is no reply leaves the put open
   leaves : (starting : Starting) (old new : LinePuts B) (before after : Link R W) (put asked_put : OpenCall)
-      (end : CallEnd) → ((key : Key) (reply : Reply) → ¬ (end ≡ ends.Replied key reply))
-      → AsksPut bytes remaining contents starting old new before after put end → asked_put.call ≡ put.call
-      → asked_put.asked ≡ key_asked end put.asked → new.open_put ≡ Some asked_put
-      → LeavesOpen bytes remaining contents starting old new before after end
-  leaves starting old new before after put asked_put end no_reply asks same asked is = record {
-    put = put;
-    no_reply = no_reply;
-    asks = asks;
-    stays = subst
-        (λ (o : Option OpenCall). IsSomeAnd o (λ left. (left.call ≡ put.call)
-        × (left.asked ≡ key_asked end put.asked))) (sym is) (same, asked);
-  }
+      (end : CallEnd) (told : LineEnd) → AsksPut bytes remaining contents starting old new before after put end
+      → (asked_put.call ≡ put.call) × (asked_put.asked ≡ key_asked end put.asked)
+      → (told ≡ line.Open end) × (new.open_put ≡ Some asked_put)
+      → ((key : Key) (reply : Reply) → ¬ (end ≡ ends.Replied key reply))
+      → TakesStep bytes remaining contents starting old new before after told
+  leaves starting old new before after put asked_put end told asks same kept no_reply =
+      subst (λ (t : LineEnd). TakesStep bytes remaining contents starting old new before after t) (sym kept.0)
+      (record {
+        put = put;
+        no_reply = no_reply;
+        asks = asks;
+        stays = subst (λ (o : Option OpenCall). IsSomeAnd o (λ left. (left.call ≡ put.call)
+            × (left.asked ≡ key_asked end put.asked))) (sym kept.1) same;
+      })
 
   by_end : (starting : Starting) (old new : LinePuts B) (before after : Link R W) (put asked_put : OpenCall)
-      (end : CallEnd) (told : LineEnd) → AsksPut bytes remaining contents starting old new before after put
-      end
-      → asked_put.call ≡ put.call → asked_put.asked ≡ key_asked end put.asked
+      (end : CallEnd) (told : LineEnd) → AsksPut bytes remaining contents starting old new before after put end
+      → (asked_put.call ≡ put.call) × (asked_put.asked ≡ key_asked end put.asked)
       → KeepsOpen asked_put end new.open_put told
       → TakesStep bytes remaining contents starting old new before after told
-  by_end starting old new before after put asked_put (ends.Replied key reply) told asks same asked kept =
+  by_end starting old new before after put asked_put (ends.Replied key reply) told asks same kept =
       subst (λ (t : LineEnd). TakesStep bytes remaining contents starting old new before after t) (sym kept.0)
-      (record { put = put; call_is = sym same; asks = asks; none_open = kept.1 })
-  by_end starting old new before after put asked_put (ends.Refused key refusal) told asks same asked kept =
-      subst (λ (t : LineEnd). TakesStep bytes remaining contents starting old new before after t) (sym kept.0)
-      (leaves starting old new before after put asked_put (ends.Refused key refusal) (λ k r is. absurd (cc))
-      asks same
-      asked kept.1)
-  by_end starting old new before after put asked_put (ends.Unsettled key fault) told asks same asked kept =
-      subst (λ (t : LineEnd). TakesStep bytes remaining contents starting old new before after t) (sym kept.0)
-      (leaves starting old new before after put asked_put (ends.Unsettled key fault) (λ k r is. absurd (cc))
-      asks same
-      asked kept.1)
-  by_end starting old new before after put asked_put (ends.EpochEnded key current) told asks same asked kept =
-      subst (λ (t : LineEnd). TakesStep bytes remaining contents starting old new before after t) (sym kept.0)
-      (leaves starting old new before after put asked_put (ends.EpochEnded key current)
-      (λ k r is. absurd (cc)) asks
-      same asked kept.1)
-  by_end starting old new before after put asked_put (ends.Replaced key current) told asks same asked kept =
-      subst (λ (t : LineEnd). TakesStep bytes remaining contents starting old new before after t) (sym kept.0)
-      (leaves starting old new before after put asked_put (ends.Replaced key current) (λ k r is. absurd (cc))
-      asks same
-      asked kept.1)
-  by_end starting old new before after put asked_put (ends.Moved key epoch) told asks same asked kept =
-      subst (λ (t : LineEnd). TakesStep bytes remaining contents starting old new before after t) (sym kept.0)
-      (leaves starting old new before after put asked_put (ends.Moved key epoch) (λ k r is. absurd (cc)) asks
-      same
-      asked kept.1)
-  by_end starting old new before after put asked_put (ends.Unwelcome refusal) told asks same asked kept =
-      subst (λ (t : LineEnd). TakesStep bytes remaining contents starting old new before after t) (sym kept.0)
-      (leaves starting old new before after put asked_put (ends.Unwelcome refusal) (λ k r is. absurd (cc))
-      asks same
-      asked kept.1)
-  by_end starting old new before after put asked_put (ends.Unheard fault) told asks same asked kept =
-      subst (λ (t : LineEnd). TakesStep bytes remaining contents starting old new before after t) (sym kept.0)
-      (leaves starting old new before after put asked_put (ends.Unheard fault) (λ k r is. absurd (cc)) asks
-      same
-      asked kept.1)
+      (record { put = put; call_is = sym same.0; asks = asks; none_open = kept.1 })
+  by_end starting old new before after put asked_put (ends.Refused key refusal) told asks same kept =
+      leaves starting old new before after put asked_put _ told asks same kept (λ k r is. absurd (cc))
+  by_end starting old new before after put asked_put (ends.Unsettled key fault) told asks same kept =
+      leaves starting old new before after put asked_put _ told asks same kept (λ k r is. absurd (cc))
+  by_end starting old new before after put asked_put (ends.EpochEnded key current) told asks same kept =
+      leaves starting old new before after put asked_put _ told asks same kept (λ k r is. absurd (cc))
+  by_end starting old new before after put asked_put (ends.Replaced key current) told asks same kept =
+      leaves starting old new before after put asked_put _ told asks same kept (λ k r is. absurd (cc))
+  by_end starting old new before after put asked_put (ends.Moved key epoch) told asks same kept =
+      leaves starting old new before after put asked_put _ told asks same kept (λ k r is. absurd (cc))
+  by_end starting old new before after put asked_put (ends.Unwelcome refusal) told asks same kept =
+      leaves starting old new before after put asked_put _ told asks same kept (λ k r is. absurd (cc))
+  by_end starting old new before after put asked_put (ends.Unheard fault) told asks same kept =
+      leaves starting old new before after put asked_put _ told asks same kept (λ k r is. absurd (cc))
 
   -- the put that was taken, and what came of it
   pub takes_step : (starting : Starting) (old mid new : LinePuts B) (before after : Link R W)
@@ -100,4 +80,4 @@ module _ {B R W : Type 0} (bytes : B → Option (List ℕ)) (remaining : R → O
       → TakesStep bytes remaining contents starting old new before after told
   takes_step starting old mid new before after put asked_put end told taken ended same asked kept is =
       by_end starting old new before after put asked_put end told
-      (record { is_next = next_stays old mid new put is taken.2; ended = ended }) same asked kept
+      (record { is_next = next_stays old mid new put is taken.2; ended = ended }) (same, asked) kept

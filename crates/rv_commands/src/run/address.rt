@@ -11,6 +11,9 @@ const MOST_PORT: u64 = 65_535;
 
 const MOST_CLIENT: u64 = 9_007_199_254_740_991;
 
+// What no name of a host has, beside white space.
+const NO_NAME: &str = "\0/?#&,:[]@%";
+
 // How many digits are on each side of a span's point, at most.
 const DIGITS: usize = 9;
 
@@ -48,8 +51,8 @@ pub(crate) enum AddressFault<'a> {
     NoMemory,
 }
 
-impl From<AllocError> for AddressFault<'_> {
-    fn from(_error: AllocError) -> AddressFault<'static> {
+impl<'a> From<AllocError> for AddressFault<'a> {
+    fn from(_error: AllocError) -> AddressFault<'a> {
         AddressFault::NoMemory
     }
 }
@@ -131,11 +134,7 @@ fn is_name(host: &str) -> bool {
 
 // Whether a character may stand in a host's name.
 fn is_of_name(c: char) -> bool {
-    !c.is_whitespace()
-        && !matches!(
-            c,
-            '\0' | '/' | '?' | '#' | '&' | ',' | ':' | '[' | ']' | '@' | '%'
-        )
+    !c.is_whitespace() && !NO_NAME.contains(c)
 }
 
 // Whether a text is an address of version 6, which may have a zone.

@@ -64,26 +64,21 @@ pub(crate) fn run_bench(
 
 // Prints the table.
 fn print_table(rt: &HostRuntime, few: Rates, many: Rates) -> Result<u8, ShellEnd> {
-    let text = format!(in rt.alloc();
-        "{:<12}{:>12}{:>12}\n{:<12}{:>12}{:>12}\n{:<12}{:>12}{:>12}\n{:<12}{:>12}{:>12}\n",
-        "a second",
-        "1 at a time",
-        "16 at once",
-        "puts",
-        few.puts,
-        many.puts,
-        "takes",
-        few.takes,
-        many.takes,
-        "hand-overs",
-        few.hand_overs,
-        many.hand_overs
-    )?;
     let mut out = Sink::new(rt.stdout());
+    let mut text = String::new(rt.alloc());
+    text.push_str("a second       1 at a time  16 at once\n")?;
+    text.push_str(row(rt, "puts", few.puts, many.puts)?.as_str())?;
+    text.push_str(row(rt, "takes", few.takes, many.takes)?.as_str())?;
+    text.push_str(row(rt, "hand-overs", few.hand_overs, many.hand_overs)?.as_str())?;
     match out.write_all(text.as_bytes()) {
         Ok(()) => Ok(0),
         Err(_) => Err(ShellEnd::Unprinted),
     }
+}
+
+// One row of the table.
+fn row(rt: &HostRuntime, name: &str, few: u64, many: u64) -> Result<String, ShellEnd> {
+    Ok(format!(in rt.alloc(); "{name:<12}{few:>14}{many:>12}\n")?)
 }
 
 // The rates with so many requests under way at once, each over a connection of its own.
@@ -228,6 +223,15 @@ fn own_item(rt: &HostRuntime) -> Result<Item, ShellEnd> {
     Ok(Item::from_text(String::from_str(rt.alloc(), ITEM)?))
 }
 
+// Whether an item is the bench's.
+fn check_item(item: Item) -> Result<(), ShellEnd> {
+    if item.as_str() == ITEM {
+        Ok(())
+    } else {
+        Err(ShellEnd::NotOwn(item.into_text()))
+    }
+}
+
 // One connection, whose client number is leased.
 #[derive(Drop)]
 struct Peer {
@@ -263,7 +267,7 @@ impl Peer {
             &Message::Hello {
                 client: key.client,
                 incarnation: key.incarnation,
-                version: Version::Two,
+                version: session.version(),
             },
         )?;
         match peer.answer(rt)? {
@@ -285,25 +289,34 @@ impl Peer {
 
     // Hears its reply, which is one that it did what was asked.
     fn hear(&mut self, rt: &HostRuntime) -> Result<(), ShellEnd> {
-        match self.answer(rt)? {
-            Answer::Replied { key, reply } if key == self.key => match reply {
-                Reply::Done | Reply::Received | Reply::ReceivedBy(_) => Ok(()),
-                Reply::Item(item) if item.as_str() == ITEM => Ok(()),
-                Reply::Item(item) => Err(ShellEnd::NotOwn(item.into_text())),
-                _ => Err(self.broken()),
-            },
+        let Answer::Replied { key, reply } = self.answer(rt)? else {
+            return Err(self.broken());
+        };
+        if key == self.key {
+            self.check(reply)
+        } else {
+            Err(self.broken())
+        }
+    }
+
+    // Whether a reply tells that it was done.
+    fn check(&self, reply: Reply) -> Result<(), ShellEnd> {
+        match reply {
+            Reply::Done | Reply::Received | Reply::ReceivedBy(_) => Ok(()),
+            Reply::Item(item) => check_item(item),
             _ => Err(self.broken()),
         }
     }
 
     // Sends a message as a frame.
     fn send(&mut self, rt: &HostRuntime, message: &Message) -> Result<(), ShellEnd> {
-        let body = encode_message(rt.alloc(), message)?;
+        let text = encode_message(rt.alloc(), message)?;
+        let body = text.as_bytes();
         if body.is_empty() || body.len() > MAX_BODY_BYTES {
             return Err(self.broken());
         }
         let mut to = Sink::new(&self.stream);
-        match write_frame(&mut to, body.as_bytes()) {
+        match write_frame(&mut to, body) {
             Ok(()) => Ok(()),
             Err(_) => Err(self.broken()),
         }

@@ -75,7 +75,7 @@ pub(crate) struct ShellClient<'a> {
     client: u64,
     incarnation: u64,
     version: Version,
-    // For how long a lost server is tried again.
+    // For how long a server is tried again after it was lost.
     patience: Duration,
     // Whether a server was there once: then one that is lost is tried again.
     was_there: bool,
@@ -125,7 +125,7 @@ impl<'a> ShellClient<'a> {
         &mut self,
         asks: &mut A,
     ) -> Result<Option<(Key, Reply)>, ShellEnd> {
-        let began = self.rt.monotonic().unwrap_or(Duration::ZERO);
+        let mut lost_at = None;
         for tried in 0..u64::MAX {
             match self.tried(asks, tried < FIRST_TRIES)? {
                 Tried::Over => return Ok(None),
@@ -133,7 +133,9 @@ impl<'a> ShellClient<'a> {
                 Tried::Lost => {}
             }
             let now = self.rt.monotonic().unwrap_or(Duration::ZERO);
-            if now.saturating_sub(began) >= self.patience {
+            let since = lost_at.unwrap_or(now);
+            lost_at = Some(since);
+            if now.saturating_sub(since) >= self.patience {
                 break;
             }
             thread::sleep(self.rt, Duration::from_millis(PAUSE_MILLIS));

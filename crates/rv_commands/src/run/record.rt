@@ -9,18 +9,23 @@ use std::fs::{File, OpenOptions};
 /// A record, or none.
 #[derive(Drop)]
 pub(crate) struct Record<'a> {
-    file: Option<(&'a str, Sink<File>)>,
+    path: &'a str,
+    file: Option<Sink<File>>,
 }
 
 impl<'a> Record<'a> {
     /// Opens the file of this path, if there is one, and makes it if it isn't there.
     pub(crate) fn open(rt: &HostRuntime, path: Option<&'a str>) -> Result<Record<'a>, ShellEnd> {
         let Some(path) = path else {
-            return Ok(Record { file: None });
+            return Ok(Record {
+                path: "",
+                file: None,
+            });
         };
         match OpenOptions::new().append(true).create(true).open(rt, path) {
             Ok(file) => Ok(Record {
-                file: Some((path, Sink::new(file))),
+                path,
+                file: Some(Sink::new(file)),
             }),
             Err(error) => Err(ShellEnd::Unrecorded(format!(in rt.alloc();
                 "record {path}: {error}"
@@ -30,11 +35,12 @@ impl<'a> Record<'a> {
 
     /// Appends the line of a reply, in one write.
     pub(crate) fn append(&mut self, alloc: Global, settled: &SettledCall) -> Result<(), ShellEnd> {
-        let Some((path, sink)) = &mut self.file else {
+        let path = self.path;
+        let Some(file) = &mut self.file else {
             return Ok(());
         };
         let line = record_line(alloc, &settled.key, &settled.call, &settled.reply)?;
-        match sink.write_all(line.as_bytes()) {
+        match file.write_all(line.as_bytes()) {
             Ok(()) => Ok(()),
             Err(fault) => Err(ShellEnd::Unrecorded(format!(in alloc; "record {path}: {fault}")?)),
         }
