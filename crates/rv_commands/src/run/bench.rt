@@ -57,8 +57,8 @@ pub(crate) fn run_bench(
     ) {
         return Err(ShellEnd::Busy(*queue));
     }
-    let few = rates_of(rt, session, *queue, FEW)?;
     let many = rates_of(rt, session, *queue, MANY)?;
+    let few = rates_of(rt, session, *queue, FEW)?;
     print_table(rt, few, many)
 }
 
@@ -127,9 +127,11 @@ impl<'a> Peers<'a> {
 
     // Puts, and then takes what was put, for a while; how many of each a second.
     fn put_and_take(&mut self) -> Result<(u64, u64), ShellEnd> {
-        let (mut rounds, mut putting, mut taking) = (0, Duration::ZERO, Duration::ZERO);
-        let span = Duration::from_millis(SPAN_MILLIS);
-        while putting.saturating_add(taking) < span {
+        let (mut putting, mut taking) = (Duration::ZERO, Duration::ZERO);
+        for round in 0..u64::MAX {
+            if putting.saturating_add(taking) >= Duration::from_millis(SPAN_MILLIS) {
+                return Ok((self.rate(round, putting), self.rate(round, taking)));
+            }
             let began = self.now();
             self.ask_all(&ToDo::Put)?;
             self.hear_all()?;
@@ -138,23 +140,24 @@ impl<'a> Peers<'a> {
             self.hear_all()?;
             putting = putting.saturating_add(between.saturating_sub(began));
             taking = taking.saturating_add(self.now().saturating_sub(between));
-            rounds = u64::saturating_add(rounds, 1);
         }
-        Ok((self.rate(rounds, putting), self.rate(rounds, taking)))
+        Err(ShellEnd::Broken(self.queue))
     }
 
     // Hands items over to the consumers for a while, each of which waits for its own; how many a second.
     fn hand_over_to(&mut self, consumers: &mut Peers) -> Result<u64, ShellEnd> {
-        let (mut rounds, began) = (0, self.now());
-        let span = Duration::from_millis(SPAN_MILLIS);
-        while self.now().saturating_sub(began) < span {
+        let began = self.now();
+        for round in 0..u64::MAX {
+            let span = self.now().saturating_sub(began);
+            if span >= Duration::from_millis(SPAN_MILLIS) {
+                return Ok(self.rate(round, span));
+            }
             consumers.ask_all(&ToDo::WaitForItem)?;
             self.ask_all(&ToDo::HandOver)?;
             consumers.hear_all()?;
             self.hear_all()?;
-            rounds = u64::saturating_add(rounds, 1);
         }
-        Ok(self.rate(rounds, self.now().saturating_sub(began)))
+        Err(ShellEnd::Broken(self.queue))
     }
 
     // Sends a request over each connection.

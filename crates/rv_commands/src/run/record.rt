@@ -4,6 +4,7 @@ use crate::run::end::ShellEnd;
 use crate::run::printing::SettledCall;
 use rv_frame::Sink;
 use std::alloc::Global;
+use std::fmt::Display;
 use std::fs::{File, OpenOptions};
 
 /// A record, or none.
@@ -27,9 +28,7 @@ impl<'a> Record<'a> {
                 path,
                 file: Some(Sink::new(file)),
             }),
-            Err(error) => Err(ShellEnd::Unrecorded(format!(in rt.alloc();
-                "record {path}: {error}"
-            )?)),
+            Err(error) => Err(unrecorded(rt.alloc(), path, error)),
         }
     }
 
@@ -42,7 +41,15 @@ impl<'a> Record<'a> {
         let line = record_line(alloc, &settled.key, &settled.call, &settled.reply)?;
         match file.write_all(line.as_bytes()) {
             Ok(()) => Ok(()),
-            Err(fault) => Err(ShellEnd::Unrecorded(format!(in alloc; "record {path}: {fault}")?)),
+            Err(fault) => Err(unrecorded(alloc, path, fault)),
         }
+    }
+}
+
+// The end of a command whose record lacks a line, for this reason.
+fn unrecorded<E: Display + Drop>(alloc: Global, path: &str, why: E) -> ShellEnd {
+    match format!(in alloc; "record {path}: {why}") {
+        Ok(text) => ShellEnd::Unrecorded(text),
+        Err(_) => ShellEnd::NoMemory,
     }
 }
