@@ -33,7 +33,8 @@ module _ {B R W : Type 0} (bytes : B → Option (List ℕ)) (remaining : R → O
 
   -- an end that is no reply leaves the put open
   leaves : (starting : Starting) (old new : LinePuts B) (before after : Link R W) (put asked_put : OpenCall)
-      (end : CallEnd) (told : LineEnd) → AsksPut bytes remaining contents starting old new before after put end
+      (end : CallEnd) (told : LineEnd) → AsksPut bytes remaining contents starting old new before after put
+      end
       → (asked_put.call ≡ put.call) × (asked_put.asked ≡ key_asked end put.asked)
       → (told ≡ line.Open end) × (new.open_put ≡ Some asked_put)
       → ((key : Key) (reply : Reply) → ¬ (end ≡ ends.Replied key reply))
@@ -49,7 +50,8 @@ module _ {B R W : Type 0} (bytes : B → Option (List ℕ)) (remaining : R → O
       })
 
   by_end : (starting : Starting) (old new : LinePuts B) (before after : Link R W) (put asked_put : OpenCall)
-      (end : CallEnd) (told : LineEnd) → AsksPut bytes remaining contents starting old new before after put end
+      (end : CallEnd) (told : LineEnd) → AsksPut bytes remaining contents starting old new before after put
+      end
       → (asked_put.call ≡ put.call) × (asked_put.asked ≡ key_asked end put.asked)
       → KeepsOpen asked_put end new.open_put told
       → TakesStep bytes remaining contents starting old new before after told
