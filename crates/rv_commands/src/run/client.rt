@@ -149,11 +149,7 @@ impl<'a> ShellClient<'a> {
     // Asks once, over the connection that there is or a new one. If there is none, one may come later where
     // a server was there before, or where it is early.
     fn tried<A: OpenRequest>(&mut self, asks: &mut A, is_early: bool) -> Result<Tried, ShellEnd> {
-        let Some(stream) = self
-            .stream
-            .take()
-            .or_else(|| connected_to_one(self.rt, self.servers))
-        else {
+        let Some(stream) = self.found() else {
             return if self.was_there || is_early {
                 Ok(Tried::Lost)
             } else {
@@ -170,6 +166,14 @@ impl<'a> ShellClient<'a> {
                 Ok(Tried::Replied(key, reply))
             }
             Asked::Ended(end) => self.lost(end, earlier),
+        }
+    }
+
+    // The connection that there is, or a new one.
+    fn found(&mut self) -> Option<TcpStream> {
+        match self.stream.take() {
+            Some(stream) => Some(stream),
+            None => connected_to_one(self.rt, self.servers),
         }
     }
 

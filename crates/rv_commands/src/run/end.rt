@@ -1,8 +1,9 @@
 //! Why a command of a shell has no reply, and the status that tells it.
 use crate::run::leased::ClientRange;
+use rv_frame::WriteFault;
 use rv_text::{Key, Refusal, Version};
 use std::alloc::AllocError;
-use std::fmt;
+use std::{fmt, io};
 
 /// Why a command has no reply. Its `Display` is the line on standard error.
 #[derive(Drop)]
@@ -25,8 +26,10 @@ pub(crate) enum ShellEnd {
     Clock,
     /// Standard output didn't take the reply.
     Unprinted,
-    /// The record lacks the line of a reply, which this line tells.
-    Unrecorded(String),
+    /// The record of this path can't be opened.
+    Unopened(String, io::Error),
+    /// The record of this path lacks the line of a reply.
+    Unrecorded(String, WriteFault),
     /// Items or consumers wait at the queue of this number.
     Busy(u64),
     /// A take of the bench got this item, which was somebody else's.
@@ -59,7 +62,9 @@ impl fmt::Display for ShellEnd {
     fn fmt<W: fmt::Write>(&self, f: &mut fmt::Formatter<W>) -> fmt::Result {
         match self {
             ShellEnd::NoServer => f.write_str("no server: none listens at the address"),
-            ShellEnd::Words(text) | ShellEnd::Unrecorded(text) => f.write_str(text),
+            ShellEnd::Words(text) => f.write_str(text),
+            ShellEnd::Unopened(path, error) => write!(f, "record {path}: {error}"),
+            ShellEnd::Unrecorded(path, fault) => write!(f, "record {path}: {fault}"),
             ShellEnd::NoItem(line) => {
                 write!(
                     f,
@@ -105,14 +110,10 @@ fn write_unknown<W: fmt::Write>(
     let (client, incarnation, epoch) = (key.client, key.incarnation, key.epoch);
     write!(
         f,
-        "not known: the request of client {client}, incarnation {incarnation}, in epoch {epoch}; "
+        "not known: the request of client {client}, incarnation {incarnation}"
     )?;
-    write!(
-        f,
-        "while the server is in that epoch, the same call asks again by "
-    )?;
-    write!(
-        f,
-        "rv call --connect ADDR --client {client} --incarnation {incarnation} --tries 6 --speak {speak}"
-    )
+    write!(f, ", in epoch {epoch}; while the server is in that epoch, ")?;
+    f.write_str("the same call asks again by rv call --connect ADDR")?;
+    write!(f, " --client {client} --incarnation {incarnation}")?;
+    write!(f, " --tries 6 --speak {speak}")
 }

@@ -4,7 +4,6 @@ use crate::run::end::ShellEnd;
 use crate::run::printing::SettledCall;
 use rv_frame::Sink;
 use std::alloc::Global;
-use std::fmt::Display;
 use std::fs::{File, OpenOptions};
 
 /// A record, or none.
@@ -28,7 +27,7 @@ impl<'a> Record<'a> {
                 path,
                 file: Some(Sink::new(file)),
             }),
-            Err(error) => Err(unrecorded(rt.alloc(), path, error)),
+            Err(error) => Err(ShellEnd::Unopened(String::from_str(rt.alloc(), path)?, error)),
         }
     }
 
@@ -41,15 +40,7 @@ impl<'a> Record<'a> {
         let line = record_line(alloc, &settled.key, &settled.call, &settled.reply)?;
         match file.write_all(line.as_bytes()) {
             Ok(()) => Ok(()),
-            Err(fault) => Err(unrecorded(alloc, path, fault)),
+            Err(fault) => Err(ShellEnd::Unrecorded(String::from_str(alloc, path)?, fault)),
         }
-    }
-}
-
-// The end of a command whose record lacks a line, for this reason.
-fn unrecorded<E: Display + Drop>(alloc: Global, path: &str, why: E) -> ShellEnd {
-    match format!(in alloc; "record {path}: {why}") {
-        Ok(text) => ShellEnd::Unrecorded(text),
-        Err(_) => ShellEnd::NoMemory,
     }
 }
