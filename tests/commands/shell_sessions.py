@@ -44,6 +44,8 @@ COUNTED = replies(reply="counted", items=0, consumers=0)
 RECEIVED = replies(reply="received", by_client=7, by_incarnation=8, by_number=9)
 # The lines of each of the commands that share a record.
 SHARED = 50
+# How many items a bench puts at once, with as many connections for those who take them.
+AT_ONCE = 16
 # What `rv bench` prints.
 TABLE = re.compile(rb"a second +1 at a time +16 at once\nputs +(\d+) +(\d+)\ntakes +(\d+) +(\d+)\nhand-overs +(\d+) +(\d+)\n")
 WAITING = re.compile(rb"waiting since (\w{3}, \d\d \w{3} \d{4} \d\d:\d\d:\d\d GMT)\r\n")
@@ -480,7 +482,7 @@ class Benches(Case):
             ("the count is refused", [[welcomes(), refuses(10)]], REFUSED),
             ("a client is refused", [[welcomes(), COUNTED], [refuses(9)]], REFUSED),
             ("a client isn't welcomed", [[welcomes(), COUNTED], [cut]], NO_SERVER),
-            ("a put is lost", [[welcomes(), COUNTED], [welcomes()], [welcomes()]], NO_SERVER)]
+            ("a put is lost", [[welcomes(), COUNTED], *([welcomes()] for _ in range(2 * AT_ONCE))], NO_SERVER)]
         for name, script, status in scripts:
             with Scripted(*script) as server:
                 ran = Shell(self.program, server.address).ran("bench", "3")
@@ -490,7 +492,8 @@ class Benches(Case):
     def test_another_item(self) -> None:
         """An item that somebody else put meanwhile is told, since it took it."""
         theirs = replies(reply="item", item="of somebody else")
-        with Beside([welcomes(), COUNTED], [welcomes(), DONE, theirs], [welcomes()]) as server:
+        others = [[welcomes(), DONE] for _ in range(AT_ONCE - 1)] + [[welcomes()] for _ in range(AT_ONCE)]
+        with Beside([welcomes(), COUNTED], [welcomes(), DONE, theirs], *others) as server:
             ran = Shell(self.program, server.address).ran("bench", "3")
         told_once(self, "it is told", ran, NO_SERVER)
         self.check("with the item", b"of somebody else" in ran.said, ran.said)
