@@ -12,7 +12,8 @@ QUEUE, ITEMS = "3", [f"item {number}" for number in range(40)]
 # It prints its item, and fails where that ends in 7.
 COMMAND = ["sh", "-c", 'echo "$1"; test "${1%7}" = "$1"', "sh"]
 # What the signal is told to have met.
-ENDINGS = ("stopped, and no item was taken", "stops after this command, or at once by a second signal")
+ENDINGS = ("stopped, and no item was taken", "stops after this command, or at once by a second signal",
+           "an item came meanwhile; stops after its command, or at once by a second signal")
 STOPPED = re.compile(f"rendezvous work: SIGTERM: ({'|'.join(ENDINGS)})")
 
 
