@@ -2,3 +2,5 @@
 pub mod Account
 pub mod Calls
 pub mod Limits
+pub mod rules
+pub mod state

@@ -15,6 +15,8 @@
 mod account;
 mod entry;
 mod partners;
+pub mod rules;
+pub mod state;
 mod waits;
 
 pub use account::Account;

@@ -7,7 +7,7 @@ use Rattle.std.proofs.lemmas.Bool.{cases_lt}
 use Rattle.std.proofs.lemmas.List.{take-append-le}
 use Rattle.rv_replies.specs.declared.findings.verdict.AccountFinding.{AccountFinding}
 use Rattle.rv_replies.specs.declared.findings.verdict.AccountVerdict.TheVariants as verdict
-use Rattle.rv_lines.specs.Lines.{lines}
+use Rattle.rv_book.specs.lines.Lines.{lines}
 use Rattle.rv_replies.specs.declared.records.Records.{Records}
 use Rattle.rv_verify.specs.Ends.{AreWholeLines}
 use Rattle.rv_verify.specs.Ongoing.{AreLegalUpTo, HasReadOn, HasReadPart, IsFoundOfLines}

@@ -13,7 +13,7 @@ use Rattle.rv_replies.specs.declared.findings.verdict.AccountVerdict.TheVariants
 use Rattle.rv_replies.specs.declared.findings.verdict.AccountVerdict.TheVariants.{Fault, Legal as LegalSoFar}
 use Rattle.rv_replies.specs.declared.findings.verdict.AccountVerdict.TheVariants.{NotOpen}
 use Rattle.rv_run.specs.inspect.Statuses.{IsKeptBeside, IsLineKept}
-use Rattle.rv_lines.specs.Lines.{lines}
+use Rattle.rv_book.specs.lines.Lines.{lines}
 use Rattle.rv_replies.specs.Standing.{HasNoted, IsRecordLine}
 use Rattle.rv_replies.specs.declared.records.Line.{Line}
 use Rattle.rv_replies.specs.declared.records.Line.TheVariants as line

@@ -6,8 +6,8 @@ use Rattle.rv_account.specs.Account.{Account}
 use Rattle.rv_audit.specs.declared.rule.Rule.{Rule}
 use Rattle.rv_audit.specs.AccountRules.{name_of}
 use Rattle.rv_audit.specs.Faults.{FirstFault}
-use Rattle.rv_lines.specs.Lines.{lines}
-use Rattle.rv_lines.specs.Reading.{FirstBadLine, ReadsAccount}
+use Rattle.rv_book.specs.lines.Lines.{lines}
+use Rattle.rv_book.specs.lines.Reading.{FirstBadLine, ReadsAccount}
 use Rattle.rv_app.specs.Audits.{TellsLine}
 use Rattle.rv_app.specs.declared.audit.AuditSaid.{AuditSaid}
 use Rattle.rv_app.specs.declared.audit.AuditSaid.TheVariants.{BadLine, Fault}

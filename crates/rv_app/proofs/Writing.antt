@@ -10,9 +10,9 @@ use Rattle.rv_frame.specs.declared.sink.Sink.{Sink}
 use Rattle.rv_frame.specs.Sink.{SinkTakes, sink_contents, sink_failed}
 use Rattle.rv_account.specs.declared.entry.Entry.{Entry}
 use Rattle.rv_account.specs.Account.{Account}
-use Rattle.rv_rules.proofs.Places.{within}
-use Rattle.rv_lines.specs.Lines.{printed_lines}
-use Rattle.rv_lines.specs.Written.{account_lines, entry_text}
+use Rattle.rv_account.proofs.OfRules.Places.{within}
+use Rattle.rv_book.specs.lines.Lines.{printed_lines}
+use Rattle.rv_book.specs.lines.Written.{account_lines, entry_text}
 use Rattle.rv_app.specs.Accounts.{WritesAll, WritesFront, WritesSome}
 use Rattle.rv_run.specs.Output.{StopsAfter}
 use Rattle.rv_run.proofs.Printing.{all_out, part_out, printed_append, promised_on}

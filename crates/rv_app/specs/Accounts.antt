@@ -5,8 +5,8 @@ use Rattle.rv_frame.specs.Sink.{SinkTakes, sink_failed}
 use Rattle.rv_account.specs.Account.{Account}
 use Rattle.rv_book.specs.Legal.{Legal}
 use Rattle.rv_book.specs.Limits.{FitsAccount}
-use Rattle.rv_lines.specs.Lines.{printed_lines}
-use Rattle.rv_lines.specs.Written.{account_lines}
+use Rattle.rv_book.specs.lines.Lines.{printed_lines}
+use Rattle.rv_book.specs.lines.Written.{account_lines}
 use Rattle.rv_run.specs.declared.fault.RunFault.{RunFault}
 use Rattle.rv_run.specs.declared.fault.RunFault.TheVariants.{NoMemory, ReadFault, TooLong, WriteFault}
 

@@ -12,8 +12,8 @@ use Rattle.rv_book.specs.Legal as book
 use Rattle.rv_audit.specs.declared.rule.Rule.{Rule}
 use Rattle.rv_audit.specs.AccountRules.{name_of}
 use Rattle.rv_audit.specs.Faults.{FirstFault}
-use Rattle.rv_lines.specs.Lines.{lines}
-use Rattle.rv_lines.specs.Reading.{FirstBadLine, ReadsAccount}
+use Rattle.rv_book.specs.lines.Lines.{lines}
+use Rattle.rv_book.specs.lines.Reading.{FirstBadLine, ReadsAccount}
 use Rattle.rv_run.specs.Input.{ReadsAll}
 use Rattle.rv_app.specs.declared.audit.AuditSaid.{AuditSaid}
 use Rattle.rv_app.specs.declared.audit.AuditSaid.TheVariants.{BadLine, Fault, Legal}

@@ -8,7 +8,7 @@ use Rattle.rv_replies.specs.declared.findings.Finding.TheVariants.{Kept, KeptUns
 use Rattle.rv_replies.specs.declared.findings.Told.{Told}
 use Rattle.rv_replies.specs.declared.findings.verdict.AccountFinding.{AccountFinding}
 use Rattle.rv_run.specs.inspect.Statuses.{TellsFound}
-use Rattle.rv_lines.specs.Lines.{lines}
+use Rattle.rv_book.specs.lines.Lines.{lines}
 use Rattle.rv_replies.specs.Lines.{ReadsTold}
 use Rattle.rv_replies.specs.Standing.{IsRecordLine}
 use Rattle.rv_replies.specs.declared.records.Records.{Records}

@@ -8,7 +8,7 @@ use Rattle.rv_replies.specs.declared.findings.verdict.AccountVerdict.TheVariants
 use Rattle.rv_frame.specs.declared.sink.Sink.{Sink}
 use Rattle.rv_run.specs.inspect.Report.{BeginsReport, IsReport, StopsTaking, TookLines}
 use Rattle.rv_run.specs.inspect.Statuses.{TellsFound}
-use Rattle.rv_lines.specs.Lines.{lines}
+use Rattle.rv_book.specs.lines.Lines.{lines}
 use Rattle.rv_replies.specs.declared.records.Records.{Records}
 use Rattle.rv_run.specs.declared.fault.RunFault.{RunFault}
 use Rattle.rv_verify.specs.Ends.{AreWholeLines}

@@ -1,18 +1,18 @@
 //! Writes an account as lines.
 ghost use Rattle.std.specs.Prelude.{◌≡◌, [], IfErr, OnOk};
-ghost use Rattle.rv_lines.specs.Written.{head_text};
+ghost use Rattle.rv_book.specs.lines.Written.{head_text};
 ghost use Rattle.rv_app.specs.Accounts.{StopsWriting, WritesAll};
 ghost use Rattle.rv_run.specs.Output.{IsShort, gathered_bytes, taken_in};
 
 use rv_book::Account;
+use rv_book::lines::{entry_line, head_line};
 use rv_frame::Sink;
-use rv_lines::{entry_line, head_line};
 use rv_run::{Output, RunFault};
 use std::alloc::Global;
 use std::io::Write;
 
 /// Writes the lines of an account, legal or not: `epoch E opened T`, and a line for each entry, each with LF
-/// after it, whatever the numbers and however long the account. By a law of rv_lines, lines within the limits
+/// after it, whatever the numbers and however long the account. By a law of rv_book, lines within the limits
 /// are read as that account.
 ///
 /// Its only faults are `WriteFault`, after the bytes that the fault counts, and `NoMemory`, after some whole

@@ -4,8 +4,8 @@ ghost use Rattle.rv_app.specs.Audits.{Audited, HasLine, StoppedTelling, TellsOf}
 ghost use Rattle.rv_run.specs.Input.{FailedReading, FoundTooLong, LackedMemory};
 
 use rv_book::Account;
+use rv_book::lines::{AccountFault, read_account};
 use rv_frame::{Sink, Source};
-use rv_lines::{AccountFault, read_account};
 use rv_run::{OutputFault, RunFault, read_input};
 use rv_text::NoMemory;
 use rv_world::{Audit, audit};

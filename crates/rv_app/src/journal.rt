@@ -2,7 +2,7 @@
 ghost use Rattle.std.specs.Prelude.{◌≤◌, length, None};
 
 use crate::again::{Again, size_of};
-use rv_lines::{cut_at, read_identifier};
+use rv_book::lines::{cut_at, read_identifier};
 use rv_store::{FORMAT, VERSION};
 use std::fs::File;
 use std::io;

@@ -2,7 +2,7 @@
 //! accounts, of plays, and of what is verified.
 ghost use Rattle.rv_app.specs.Verified.{ZeroKeepsAll};
 
-pub use rv_lines::laws::{
+pub use rv_book::lines::laws::{
     book_fits_lines, no_bad_line, one_account, one_bad_line, written_account, written_lines,
 };
 pub use rv_run::play::laws::{

@@ -3,7 +3,7 @@
 ghost use Rattle.std.specs.Prelude.{◌≡◌, ℕ, IfErr, IfOk, IfSome, List, Some, false, option_map};
 ghost use Rattle.std.specs.Io.Buffered.{reader_remaining};
 ghost use Rattle.rv_app.specs.Verifying.{IsFoundIn, IsReread, Reports, StopsReporting, beside};
-ghost use Rattle.rv_lines.specs.Lines.{lines};
+ghost use Rattle.rv_book.specs.lines.Lines.{lines};
 ghost use Rattle.rv_verify.specs.Naming.{BeginAlike, IsRuleAt};
 ghost use Rattle.rv_verify.specs.Recording.{IsRecordOf};
 ghost use Rattle.rv_verify.specs.Stages.{AreNew};
@@ -16,8 +16,8 @@ use crate::journal::{FileKind, JournalFile, JournalText, kind_of};
 use crate::watch::{Watch, Watched};
 use rv_account::{Entry, Place};
 use rv_audit::Rule;
-use rv_folder::present_account;
 use rv_frame::Sink;
+use rv_journal::folders::present_account;
 use rv_replies::Records;
 use rv_replies::findings::{AccountFinding, AccountVerdict};
 use rv_run::RunFault;

@@ -9,16 +9,17 @@ use Rattle.std.proofs.Common.{option_map}
 use Rattle.std.specs.FinMap.{get, insert}
 use Rattle.rv_text.specs.declared.answer.Reply.{Reply}
 use Rattle.rv_text.specs.declared.answer.Reply.TheVariants as reply
-use Rattle.rv_state.proofs.Words.{CancelledUnseen, Fresh, LastRequest, RepliedTo, Waits}
-use Rattle.rv_state.specs.State.{ClientState, OpenPlace, State, client_at, client_waits}
-use Rattle.rv_state.specs.State.{place_waiting}
-use Rattle.rv_state.specs.After.{Settled, acted, cancelled, closed, met_by, parked, request_after}
-use Rattle.rv_state.specs.After.{settled_all, tell_all, told_own, told_partner, with_open}
-use Rattle.rv_state.specs.After as after
-use Rattle.rv_state.specs.Follows.{NumberFits, NumberIsNext, NumberWaits}
-use Rattle.rv_state.proofs.ToldClients.{get_other, get_own, get_tell_all, told_client, told_or_waits}
-use Rattle.rv_state.proofs.ToldClients.{told_request}
-use Rattle.rv_state.proofs.ToldClients.{told_still}
+use Rattle.rv_account.proofs.OfState.Words.{CancelledUnseen, Fresh, LastRequest, RepliedTo, Waits}
+use Rattle.rv_account.specs.state.State.{ClientState, OpenPlace, State, client_at, client_waits}
+use Rattle.rv_account.specs.state.State.{place_waiting}
+use Rattle.rv_account.specs.state.After.{Settled, acted, cancelled, closed, met_by, parked, request_after}
+use Rattle.rv_account.specs.state.After.{settled_all, tell_all, told_own, told_partner, with_open}
+use Rattle.rv_account.specs.state.After as after
+use Rattle.rv_account.specs.state.Follows.{NumberFits, NumberIsNext, NumberWaits}
+use Rattle.rv_account.proofs.OfState.ToldClients.{get_other, get_own, get_tell_all, told_client}
+use Rattle.rv_account.proofs.OfState.ToldClients.{told_or_waits}
+use Rattle.rv_account.proofs.OfState.ToldClients.{told_request}
+use Rattle.rv_account.proofs.OfState.ToldClients.{told_still}
 use Rattle.rv_audit.specs.Passed.{AreAudited, IsAudited, IsAuditedIf, session_after, with_number}
 use Rattle.rv_audit.specs.Sessions.{EntersIf, EntersSession, session_in}
 use Rattle.rv_audit.specs.declared.sessions.AuditSessions.{AuditSessions}

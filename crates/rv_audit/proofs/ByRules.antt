@@ -4,7 +4,7 @@ use Rattle.rv_audit.proofs.Words.{subst, arith, slice_get, cases_lt, Entry, Acco
 use Rattle.rv_audit.proofs.Words.{MayFollow, read_whole}
 use Rattle.std.proofs.lemmas.Bool.{cases_order}
 use Rattle.std.proofs.lemmas.List.{take-take}
-use Rattle.rv_rules.proofs.Fronts.{Legal-before}
+use Rattle.rv_account.proofs.OfRules.Fronts.{Legal-before}
 use Rattle.rv_audit.specs.declared.rule.Rule.{Rule}
 use Rattle.rv_audit.specs.AccountRules.{rank_of}
 use Rattle.rv_audit.specs.Faults.{FirstFault, KeepsRules}

@@ -6,7 +6,7 @@ use Rattle.rv_audit.proofs.Words.{same_Some, Entry, Account, Legal, before, Brea
 use Rattle.rv_audit.proofs.Words.{passed_account}
 use Rattle.std.proofs.lemmas.List.{take-take}
 use Rattle.rv_account.specs.Account.{Stored}
-use Rattle.rv_rules.proofs.Places.{get-take}
+use Rattle.rv_account.proofs.OfRules.Places.{get-take}
 use Rattle.rv_audit.specs.declared.front.Front.{Front}
 use Rattle.rv_audit.specs.declared.rule.Rule.{Rule}
 use Rattle.rv_audit.specs.AccountRules.{BreaksFirst, BreaksNone}

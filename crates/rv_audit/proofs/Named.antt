@@ -5,7 +5,7 @@ use Rattle.rv_audit.proofs.Words.{false, List, [], length, get_or, Some, refl, s
 use Rattle.rv_audit.proofs.Words.{arith, slice_get, IsTrue, cases_lt, false≢true, Among}
 use Rattle.rv_audit.proofs.Words.{HasAmong, NoneBefore, is_any}
 use Rattle.std.proofs.lemmas.Option.{get_or_from_slice_get, slice_get-get_or}
-use Rattle.rv_rules.proofs.Places.{within}
+use Rattle.rv_account.proofs.OfRules.Places.{within}
 
 module _ (places : List ℕ) (n : ℕ) where
   read_at : (i p : ℕ) → i ≡ n → slice_get places i ≡ Some p → get_or places n 0 ≡ p

@@ -16,23 +16,23 @@ use Rattle.rv_audit.proofs.Words.{get_or}
 use Rattle.std.specs.FinMap.{get-empty}
 use Rattle.std.specs.Ordering.{nat_cmp}
 use Rattle.rv_account.specs.Account.{limit_at, with_entry}
-use Rattle.rv_rules.proofs.Growing.{NamesAt-back, NamesAt-last, NamesAt-on, reads_within}
-use Rattle.rv_rules.proofs.Legality.{Legal-with_entry}
-use Rattle.rv_rules.proofs.Places.{get-append, get-append_cases, get-append_end}
-use Rattle.rv_state.specs.State.{OpenPlace, State, client_waits, open_at, place_list}
-use Rattle.rv_state.specs.After.{but, due_at, just_open, state_of}
-use Rattle.rv_state.specs.Follows.{partners_of}
-use Rattle.rv_state.proofs.Agreed.{agreed, state_pushed}
-use Rattle.rv_state.proofs.Due.{due_of_place}
-use Rattle.rv_state.proofs.DueAt.{due_place, place_due}
-use Rattle.rv_state.proofs.Filtered.{any_get, find_get, get_any}
-use Rattle.rv_state.proofs.FollowsBoth.{account_to_state}
-use Rattle.rv_state.proofs.GoneBy.{gone_by}
-use Rattle.rv_state.proofs.OpensBy.{opens_by}
-use Rattle.rv_state.proofs.PlacesAfter.{places_acted}
-use Rattle.rv_state.proofs.Sessions.{found_open}
-use Rattle.rv_state.proofs.StateLaws.{states_tell_waiting}
-use Rattle.rv_state.proofs.Stated.{own_last}
+use Rattle.rv_account.proofs.OfRules.Growing.{NamesAt-back, NamesAt-last, NamesAt-on, reads_within}
+use Rattle.rv_account.proofs.OfRules.Legality.{Legal-with_entry}
+use Rattle.rv_account.proofs.OfRules.Places.{get-append, get-append_cases, get-append_end}
+use Rattle.rv_account.specs.state.State.{OpenPlace, State, client_waits, open_at, place_list}
+use Rattle.rv_account.specs.state.After.{but, due_at, just_open, state_of}
+use Rattle.rv_account.specs.state.Follows.{partners_of}
+use Rattle.rv_account.proofs.OfState.Agreed.{agreed, state_pushed}
+use Rattle.rv_account.proofs.OfState.Due.{due_of_place}
+use Rattle.rv_account.proofs.OfState.DueAt.{due_place, place_due}
+use Rattle.rv_account.proofs.OfState.Filtered.{any_get, find_get, get_any}
+use Rattle.rv_account.proofs.OfState.FollowsBoth.{account_to_state}
+use Rattle.rv_account.proofs.OfState.GoneBy.{gone_by}
+use Rattle.rv_account.proofs.OfState.OpensBy.{opens_by}
+use Rattle.rv_account.proofs.OfState.PlacesAfter.{places_acted}
+use Rattle.rv_account.proofs.OfState.Sessions.{found_open}
+use Rattle.rv_account.proofs.OfState.StateLaws.{states_tell_waiting}
+use Rattle.rv_account.proofs.OfState.Stated.{own_last}
 use Rattle.rv_audit.specs.Opens.{AreTabled, ClosesEach, ClosesUntil, AuditOpen, OpensAt, OpensIf, has_come}
 use Rattle.rv_audit.specs.Opens.{is_among, left_after}
 use Rattle.rv_audit.specs.Opens.{opening_at}

@@ -7,9 +7,10 @@ use Rattle.rv_audit.proofs.Words.{M2, M3, N1, N2, N3, P1, P2, P3, P4, S1, S2, Br
 use Rattle.rv_audit.proofs.Words.{IsOutOfOrder, IsPaired, MeetsWrongly, MissesPartner, NamesTaken}
 use Rattle.rv_audit.proofs.Words.{PassesOver, StartsNoNewer}
 use Rattle.rv_account.specs.Account.{NamesAt}
-use Rattle.rv_rules.specs.Waiting.{NamesPartner}
-use Rattle.rv_rules.specs.Legal.{CancelsInTurn, CountsUp, IsOfSession, KeepsLimits, KeepsTime, PairsOldest}
-use Rattle.rv_rules.specs.Legal.{PairsOpposites, PairsWherePossible, RaisesIncarnation}
+use Rattle.rv_account.specs.rules.Waiting.{NamesPartner}
+use Rattle.rv_account.specs.rules.Legal.{CancelsInTurn, CountsUp, IsOfSession, KeepsLimits, KeepsTime}
+use Rattle.rv_account.specs.rules.Legal.{PairsOldest}
+use Rattle.rv_account.specs.rules.Legal.{PairsOpposites, PairsWherePossible, RaisesIncarnation}
 use Rattle.rv_audit.specs.AccountRules.{BreaksCount, FallsBack, IsOfNoSession, IsSwapped, NamesOne}
 use Rattle.rv_audit.specs.AccountRules.{NamesTooMany, NamesWrongly, PassesLimit, TicksForNothing, WasNamed}
 

@@ -15,22 +15,23 @@ use Rattle.std.specs.List.Sorted.{IsStrictlyIncreasing}
 use Rattle.rv_text.specs.declared.call.Call.TheVariants.{Drain}
 use Rattle.rv_account.specs.Account.{call_at}
 use Rattle.rv_account.specs.Calls.{MayMeet}
-use Rattle.rv_rules.specs.Sessions.{HasIncarnation}
-use Rattle.rv_rules.specs.Legal.{CancelsInTurn, CountsUp, IsFreePartner, IsOfSession, KeepsLimits, KeepsTime}
-use Rattle.rv_rules.specs.Legal.{NothingDue, PairsOldest, PairsOpposites, PairsWherePossible}
-use Rattle.rv_rules.specs.Legal.{RaisesIncarnation}
-use Rattle.rv_rules.proofs.Deciding.{find_last, open_by}
-use Rattle.rv_state.specs.After.{state_of}
-use Rattle.rv_state.proofs.Agreed.{agreed}
-use Rattle.rv_state.proofs.Due.{nothing_due}
-use Rattle.rv_state.proofs.DueDecided.{session_decided, waits_decided}
-use Rattle.rv_state.proofs.NumbersBoth.{waits_to_account, waits_to_state}
-use Rattle.rv_state.proofs.RefusalsBoth.{has_from, has_to}
-use Rattle.rv_state.proofs.MomentsBoth.{some_to_due}
-use Rattle.rv_state.proofs.OwnMoment.{later_keeps_time}
-use Rattle.rv_rules.proofs.Fronts.{open_in_front}
-use Rattle.rv_rules.proofs.Growing.{read_there}
-use Rattle.rv_rules.proofs.Naming.{among_or_not}
+use Rattle.rv_account.specs.rules.Sessions.{HasIncarnation}
+use Rattle.rv_account.specs.rules.Legal.{CancelsInTurn, CountsUp, IsFreePartner, IsOfSession, KeepsLimits}
+use Rattle.rv_account.specs.rules.Legal.{KeepsTime}
+use Rattle.rv_account.specs.rules.Legal.{NothingDue, PairsOldest, PairsOpposites, PairsWherePossible}
+use Rattle.rv_account.specs.rules.Legal.{RaisesIncarnation}
+use Rattle.rv_account.proofs.OfRules.Deciding.{find_last, open_by}
+use Rattle.rv_account.specs.state.After.{state_of}
+use Rattle.rv_account.proofs.OfState.Agreed.{agreed}
+use Rattle.rv_account.proofs.OfState.Due.{nothing_due}
+use Rattle.rv_account.proofs.OfState.DueDecided.{session_decided, waits_decided}
+use Rattle.rv_account.proofs.OfState.NumbersBoth.{waits_to_account, waits_to_state}
+use Rattle.rv_account.proofs.OfState.RefusalsBoth.{has_from, has_to}
+use Rattle.rv_account.proofs.OfState.MomentsBoth.{some_to_due}
+use Rattle.rv_account.proofs.OfState.OwnMoment.{later_keeps_time}
+use Rattle.rv_account.proofs.OfRules.Fronts.{open_in_front}
+use Rattle.rv_account.proofs.OfRules.Growing.{read_there}
+use Rattle.rv_account.proofs.OfRules.Naming.{among_or_not}
 use Rattle.rv_audit.specs.AccountRules.{BreaksCount, FallsBack, IsOfNoSession, IsSwapped, NamesOne}
 use Rattle.rv_audit.specs.AccountRules.{NamesWrongly, ArrivesAs, WasNamed}
 

@@ -12,22 +12,23 @@ use Rattle.std.proofs.Common.{◌↔◌, ◌^◌, is_some, option_map}
 use Rattle.std.specs.Option.{option_eq}
 use Rattle.rv_text.specs.declared.call.Wait.{Wait}
 use Rattle.rv_account.specs.Account.{key_at, limit_at}
-use Rattle.rv_rules.specs.Legal.{IsDueAt}
-use Rattle.rv_rules.specs.Sessions.{HasIncarnation, LastNumber, SaidHello}
-use Rattle.rv_rules.specs.Waiting.{SideAt}
-use Rattle.rv_state.specs.State.{ClientState, OpenPlace, State, Waiter, client_at, open_at, place_waiting}
-use Rattle.rv_state.specs.State.{same_side}
-use Rattle.rv_state.specs.After.{state_of, waiter_of}
-use Rattle.rv_state.specs.Agreement.{IsArrival, IsStateOf, TellsWaiting}
-use Rattle.rv_state.proofs.Agreed.{agreed}
-use Rattle.rv_state.proofs.ClientParts.{account_to_session}
-use Rattle.rv_state.proofs.Due.{due_of_place}
-use Rattle.rv_state.proofs.Filtered.{chained_there, find_get, mapped_there}
-use Rattle.rv_state.specs.Follows.{InSession}
-use Rattle.rv_state.proofs.NumbersBoth.{none_waits, waits_to_account, waits_to_state}
-use Rattle.rv_state.proofs.Sessions.{found_open, open_found}
-use Rattle.rv_state.proofs.SideLines.{same_side_is, same_side_itself}
-use Rattle.rv_state.proofs.StateLaws.{states_tell_waiting}
+use Rattle.rv_account.specs.rules.Legal.{IsDueAt}
+use Rattle.rv_account.specs.rules.Sessions.{HasIncarnation, LastNumber, SaidHello}
+use Rattle.rv_account.specs.rules.Waiting.{SideAt}
+use Rattle.rv_account.specs.state.State.{ClientState, OpenPlace, State, Waiter, client_at, open_at}
+use Rattle.rv_account.specs.state.State.{place_waiting}
+use Rattle.rv_account.specs.state.State.{same_side}
+use Rattle.rv_account.specs.state.After.{state_of, waiter_of}
+use Rattle.rv_account.specs.state.Agreement.{IsArrival, IsStateOf, TellsWaiting}
+use Rattle.rv_account.proofs.OfState.Agreed.{agreed}
+use Rattle.rv_account.proofs.OfState.ClientParts.{account_to_session}
+use Rattle.rv_account.proofs.OfState.Due.{due_of_place}
+use Rattle.rv_account.proofs.OfState.Filtered.{chained_there, find_get, mapped_there}
+use Rattle.rv_account.specs.state.Follows.{InSession}
+use Rattle.rv_account.proofs.OfState.NumbersBoth.{none_waits, waits_to_account, waits_to_state}
+use Rattle.rv_account.proofs.OfState.Sessions.{found_open, open_found}
+use Rattle.rv_account.proofs.OfState.SideLines.{same_side_is, same_side_itself}
+use Rattle.rv_account.proofs.OfState.StateLaws.{states_tell_waiting}
 use Rattle.rv_audit.specs.Lines.{IsFirstBeside, NobodyBeside}
 use Rattle.rv_audit.specs.Marks.{IsUntil}
 use Rattle.rv_audit.specs.Opens.{AuditOpen, ends_at, is_limit, is_on, opening_at}

@@ -15,16 +15,16 @@ use Rattle.rv_audit.proofs.Words.{Act, Arrive, Cancel, IsOutOfOrder, key_in, opt
 use Rattle.rv_audit.proofs.Words.{get_or}
 use Rattle.rv_audit.specs.AccountRules.{BreaksCount, NamesTooMany, NamesWrongly}
 use Rattle.std.proofs.Common.{nat_lt, nat_le, is_some}
-use Rattle.rv_rules.specs.Sessions.{LastNumber, SaidHello}
-use Rattle.rv_rules.proofs.Histories.{hellos_at_most}
+use Rattle.rv_account.specs.rules.Sessions.{LastNumber, SaidHello}
+use Rattle.rv_account.proofs.OfRules.Histories.{hellos_at_most}
 use Rattle.rv_audit.specs.AccountRules.{ArrivesAs, ArrivesToMeet, CountsTo, IsNotNext}
 use Rattle.rv_audit.specs.AccountRules.{TicksForNothing}
 use Rattle.rv_audit.specs.Passed.{IsOfSessionOf, IsOldestOpposite, LeavesOlder}
 use Rattle.std.proofs.lemmas.Option.{get_or_from_slice_get, slice_get-get_or}
 use Rattle.std.specs.List.Sorted.{IsStrictlyIncreasing}
 use Rattle.std.specs.List.{slice_index}
-use Rattle.rv_rules.proofs.Counting.{later_is_greater}
-use Rattle.rv_rules.proofs.Places.{within}
+use Rattle.rv_account.proofs.OfRules.Counting.{later_is_greater}
+use Rattle.rv_account.proofs.OfRules.Places.{within}
 use Rattle.rv_audit.proofs.RulesSuffice.{opposites_of, paired_opposite}
 use Rattle.rv_audit.proofs.Words.{inl, inr, slice_get, cases_lt}
 use Rattle.rv_audit.proofs.Saying.{IsKnown}

@@ -26,18 +26,18 @@ pub use Rattle.rv_audit.specs.declared.rule.Rule.{Rule}
 pub use Rattle.rv_audit.specs.declared.rule.Rule.TheVariants.{M1, M2, M3, N1, N2, N3, P1, P2, P3, P4, S1}
 pub use Rattle.rv_audit.specs.declared.rule.Rule.TheVariants.{S2}
 pub use Rattle.rv_audit.specs.declared.sessions.AuditSession.{AuditSession}
-pub use Rattle.rv_state.specs.Agreement.{ClientWaitsAt}
-pub use Rattle.rv_rules.specs.Legal.{HasWaiting, IsNextNumber, IsOpenOpposite, Legal, MayFollow}
-pub use Rattle.rv_rules.specs.Legal.{NamesFreePartners, SomethingDue, WaitsUnder, before}
-pub use Rattle.rv_rules.specs.Sessions.{NamesKey}
-pub use Rattle.rv_rules.specs.Steps.{own_moment}
-pub use Rattle.rv_rules.specs.Waiting.{Met, OpenAt, Waiting}
-pub use Rattle.rv_rules.proofs.Fronts.{read_front, read_whole}
-pub use Rattle.rv_rules.proofs.Growing.{act_read, call_read}
-pub use Rattle.rv_rules.proofs.Keys.{act_called}
-pub use Rattle.rv_rules.proofs.Numbers.{same_or_not}
-pub use Rattle.rv_rules.proofs.Sides.{one_side}
-pub use Rattle.rv_rules.proofs.Waits.{one_waits}
+pub use Rattle.rv_account.specs.state.Agreement.{ClientWaitsAt}
+pub use Rattle.rv_account.specs.rules.Legal.{HasWaiting, IsNextNumber, IsOpenOpposite, Legal, MayFollow}
+pub use Rattle.rv_account.specs.rules.Legal.{NamesFreePartners, SomethingDue, WaitsUnder, before}
+pub use Rattle.rv_account.specs.rules.Sessions.{NamesKey}
+pub use Rattle.rv_account.specs.rules.Steps.{own_moment}
+pub use Rattle.rv_account.specs.rules.Waiting.{Met, OpenAt, Waiting}
+pub use Rattle.rv_account.proofs.OfRules.Fronts.{read_front, read_whole}
+pub use Rattle.rv_account.proofs.OfRules.Growing.{act_read, call_read}
+pub use Rattle.rv_account.proofs.OfRules.Keys.{act_called}
+pub use Rattle.rv_account.proofs.OfRules.Numbers.{same_or_not}
+pub use Rattle.rv_account.proofs.OfRules.Sides.{one_side}
+pub use Rattle.rv_account.proofs.OfRules.Waits.{one_waits}
 pub use Rattle.rv_text.specs.Calls.{side_of}
 pub use Rattle.rv_text.specs.declared.call.Call.{Call}
 pub use Rattle.rv_text.specs.declared.call.Side.{Side}

@@ -1,6 +1,6 @@
 -- What breaks each rule of an audit at a place, and which rule an entry breaks first.
 --
--- An entry is checked after the entries before it, in the words in which rv_rules says which entry may stand
+-- An entry is checked after the entries before it, in the words in which the rules say which entry may stand
 -- where. Each rule has its own condition for being broken, whether or not another is broken there. What is
 -- open is defined by pairs and swaps, which only arrivals that may meet make; in a legal account nothing else
 -- names partners.
@@ -17,10 +17,10 @@ use Rattle.rv_account.specs.declared.entry.Act.{Act}
 use Rattle.rv_account.specs.declared.entry.Act.TheVariants.{Hello, Arrive, Cancel, Tick}
 use Rattle.rv_account.specs.Account.{Account, Names, NamesAt, act_at, call_in, key_in}
 use Rattle.rv_account.specs.Calls.{MayMeet, may_name}
-use Rattle.rv_rules.specs.Sessions.{HasIncarnation, LastNumber, SaidHello}
-use Rattle.rv_rules.specs.Waiting.{OpenAt, SideAt}
-use Rattle.rv_rules.specs.Legal.{HasWaiting, IsOpenOpposite, NothingDue, SomethingDue, WaitsUnder}
-use Rattle.rv_rules.specs.Steps.{own_moment}
+use Rattle.rv_account.specs.rules.Sessions.{HasIncarnation, LastNumber, SaidHello}
+use Rattle.rv_account.specs.rules.Waiting.{OpenAt, SideAt}
+use Rattle.rv_account.specs.rules.Legal.{HasWaiting, IsOpenOpposite, NothingDue, SomethingDue, WaitsUnder}
+use Rattle.rv_account.specs.rules.Steps.{own_moment}
 use Rattle.rv_audit.specs.declared.rule.Rule.{Rule}
 use Rattle.rv_audit.specs.declared.rule.Rule.TheVariants.{M1, M2, M3, N1, N2, N3, P1, P2, P3, P4, S1, S2}
 

@@ -2,7 +2,7 @@
 use Rattle.std.specs.Prelude.{◌≡◌, ◌<◌, ℕ, Some, slice_get}
 use Rattle.rv_account.specs.declared.entry.Entry.{Entry}
 use Rattle.rv_account.specs.Account.{Account}
-use Rattle.rv_rules.specs.Legal.{Legal, before}
+use Rattle.rv_account.specs.rules.Legal.{Legal, before}
 use Rattle.rv_audit.specs.declared.rule.Rule.{Rule}
 use Rattle.rv_audit.specs.AccountRules.{BreaksBehind, rank_of}
 use Rattle.rv_audit.specs.declared.outcome.Audit.{Audit}

@@ -1,7 +1,7 @@
 -- The laws of audits, over the definitions alone.
 use Rattle.std.specs.Prelude.{◌≡◌, ◌↔◌, ℕ}
 use Rattle.rv_account.specs.Account.{Account}
-use Rattle.rv_rules.specs.Legal.{Legal}
+use Rattle.rv_account.specs.rules.Legal.{Legal}
 use Rattle.rv_audit.specs.declared.outcome.Audit.{Audit}
 use Rattle.rv_audit.specs.Faults.{IsToldOf, KeepsRules}
 

@@ -4,7 +4,7 @@ use Rattle.std.specs.List.{list_any}
 use Rattle.std.specs.Ordering.{nat_cmp}
 use Rattle.std.specs.BTreeMap.{btree_map_len, get}
 use Rattle.rv_text.specs.declared.call.Side.{Side}
-use Rattle.rv_state.specs.State.{same_side}
+use Rattle.rv_account.specs.state.State.{same_side}
 use Rattle.rv_audit.specs.Lines.{IsOpenable, stands_in}
 use Rattle.rv_audit.specs.Marks.{is_marked_under}
 pub use Rattle.rv_audit.specs.declared.opens.AuditOpen.{AuditOpen}

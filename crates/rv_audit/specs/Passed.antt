@@ -11,11 +11,12 @@ use Rattle.rv_account.specs.declared.entry.Act.TheVariants.{Arrive, Cancel, Hell
 use Rattle.rv_account.specs.declared.entry.Entry.{Entry}
 use Rattle.rv_account.specs.Account.{Account, Among}
 use Rattle.rv_account.specs.Calls.{limit_of, may_name, opposite}
-use Rattle.rv_rules.specs.Sessions.{HasIncarnation}
-use Rattle.rv_rules.specs.Legal.{IsOpenOpposite, Legal, MayFollow, before}
-use Rattle.rv_rules.specs.Steps.{own_moment}
-use Rattle.rv_state.specs.State.{ClientState, OpenPlace, State, client_at, client_waits, place_waiting}
-use Rattle.rv_state.specs.After.{but, due_at, just_open, lasts_by, met_by, state_of}
+use Rattle.rv_account.specs.rules.Sessions.{HasIncarnation}
+use Rattle.rv_account.specs.rules.Legal.{IsOpenOpposite, Legal, MayFollow, before}
+use Rattle.rv_account.specs.rules.Steps.{own_moment}
+use Rattle.rv_account.specs.state.State.{ClientState, OpenPlace, State, client_at, client_waits}
+use Rattle.rv_account.specs.state.State.{place_waiting}
+use Rattle.rv_account.specs.state.After.{but, due_at, just_open, lasts_by, met_by, state_of}
 use Rattle.rv_audit.specs.AccountRules.{IsPaired, IsSwapped, NamesOne, WasNamed}
 use Rattle.rv_audit.specs.declared.rules.MeetingKind.{MeetingKind}
 use Rattle.rv_audit.specs.declared.rules.MeetingKind.TheVariants as kinds

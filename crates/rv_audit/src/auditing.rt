@@ -1,6 +1,6 @@
 //! The audit of an account: whether it is legal, or its first fault.
 ghost use Rattle.std.specs.Prelude.{◌≡◌, ◌↔◌, IfOk};
-ghost use Rattle.rv_rules.specs.Legal.{Legal};
+ghost use Rattle.rv_account.specs.rules.Legal.{Legal};
 ghost use Rattle.rv_audit.specs.Faults.{IsToldOf};
 ghost use Rattle.rv_audit.specs.Words.{IsFront};
 ghost use Rattle.rv_audit.specs.declared.outcome.Audit.TheVariants as tells;

@@ -2,7 +2,7 @@
 ghost use Rattle.std.specs.Prelude.{◌≡◌, ◌&&◌, is_some, option_map};
 ghost use Rattle.rv_text.specs.Calls.{side_of, wait_of};
 ghost use Rattle.rv_account.specs.Calls.{limit_of, opposite};
-ghost use Rattle.rv_state.specs.After.{lasts_by};
+ghost use Rattle.rv_account.specs.state.After.{lasts_by};
 ghost use Rattle.rv_audit.specs.Passed.{fitting, opening_by, opening_of_call, session_after};
 
 use crate::opens::AuditOpen;

@@ -4,15 +4,15 @@ use Rattle.std.proofs.Common.{◌≡◌, ◌+◌, ◌∙◌, List, length, IsSom
 use Rattle.std.proofs.Common.{arith}
 use Rattle.rv_account.specs.declared.entry.Entry.{Entry}
 use Rattle.rv_account.specs.Account.{Account, Stored, with_entry}
-use Rattle.rv_rules.specs.Limits.{FitsAccount}
-use Rattle.rv_rules.specs.Legal.{Legal}
-use Rattle.rv_rules.proofs.Legality.{Legal-with_entry}
-use Rattle.rv_rules.proofs.Places.{get-append_end}
-use Rattle.rv_state.specs.Agreement.{IsStateOf}
-use Rattle.rv_state.specs.After.{following}
-use Rattle.rv_state.specs.State.{State, client_at}
-use Rattle.rv_state.proofs.Coming.{Comes}
-use Rattle.rv_state.proofs.Stated.{stated}
+use Rattle.rv_account.specs.rules.Limits.{FitsAccount}
+use Rattle.rv_account.specs.rules.Legal.{Legal}
+use Rattle.rv_account.proofs.OfRules.Legality.{Legal-with_entry}
+use Rattle.rv_account.proofs.OfRules.Places.{get-append_end}
+use Rattle.rv_account.specs.state.Agreement.{IsStateOf}
+use Rattle.rv_account.specs.state.After.{following}
+use Rattle.rv_account.specs.state.State.{State, client_at}
+use Rattle.rv_account.proofs.OfState.Coming.{Comes}
+use Rattle.rv_account.proofs.OfState.Stated.{stated}
 use Rattle.rv_text.specs.declared.message.Key.{Key}
 use Rattle.rv_book.specs.reply_cache.Keeping.{AreKept}
 use Rattle.rv_book.specs.reply_cache.Table.{KeptTable}

@@ -13,8 +13,8 @@ use Rattle.rv_text.proofs.Kept.{item_fits}
 use Rattle.rv_account.specs.Account.{item_at, items_at, partners_at}
 use Rattle.rv_account.proofs.Items.{joined, parts}
 use Rattle.rv_book.specs.Replies.{Drains}
-use Rattle.rv_rules.proofs.WithinLimits.{call_of_act}
-use Rattle.rv_state.proofs.StayingReplies.{drained_from}
+use Rattle.rv_account.proofs.OfRules.WithinLimits.{call_of_act}
+use Rattle.rv_account.proofs.OfState.StayingReplies.{drained_from}
 
 -- ---- the items of a list of places
 

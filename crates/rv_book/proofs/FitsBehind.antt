@@ -8,11 +8,11 @@ use Rattle.rv_text.specs.Limits.{FitsMessage}
 use Rattle.rv_account.specs.declared.entry.Entry.{Entry}
 use Rattle.rv_account.specs.Account.{Account, with_entry}
 use Rattle.rv_account.specs.Limits.{FitEntries, FitsAct, FitsEntry}
-use Rattle.rv_rules.specs.Limits.{FitsAccount}
-use Rattle.rv_rules.specs.StepLimits.{max_clients, max_entries}
-use Rattle.rv_rules.proofs.FewClients.{ClientsAtMost}
-use Rattle.rv_rules.proofs.Places.{get-append_cases}
-use Rattle.rv_rules.proofs.RoomKept.{RoomAtMost}
+use Rattle.rv_account.specs.rules.Limits.{FitsAccount}
+use Rattle.rv_account.specs.rules.StepLimits.{max_clients, max_entries}
+use Rattle.rv_account.proofs.OfRules.FewClients.{ClientsAtMost}
+use Rattle.rv_account.proofs.OfRules.Places.{get-append_cases}
+use Rattle.rv_account.proofs.OfRules.RoomKept.{RoomAtMost}
 use Rattle.rv_machine.specs.Needing.{act_of}
 
 entries_fit : (es : List Entry) (e : Entry) → FitEntries es → FitsEntry e → FitEntries (es ++ e ∷ [])

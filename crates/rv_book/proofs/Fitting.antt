@@ -12,11 +12,11 @@ use Rattle.rv_book.specs.Steps.{GapDue, NoSessionDue, OldIncarnationDue, OldNumb
 use Rattle.rv_book.specs.Steps.{OtherVersionDue, BusyDue}
 use Rattle.rv_text.specs.Limits.{FitsAnswer, FitsIdentifier, FitsKey, FitsLast, FitsMessage, FitsRefusal}
 use Rattle.rv_text.proofs.Kept.{cancelled_fits}
-use Rattle.rv_rules.proofs.WithinLimits.{key_of_act}
-use Rattle.rv_rules.proofs.Lines.{RefuseOr-elim, WhereElse-elim}
+use Rattle.rv_account.proofs.OfRules.WithinLimits.{key_of_act}
+use Rattle.rv_account.proofs.OfRules.Lines.{RefuseOr-elim, WhereElse-elim}
 use Rattle.rv_book.proofs.RepliesFit.{FitsIn, replied_fits}
-use Rattle.rv_rules.proofs.Keys.{act_arrives}
-use Rattle.rv_rules.proofs.Waits.{no_hello_behind}
+use Rattle.rv_account.proofs.OfRules.Keys.{act_arrives}
+use Rattle.rv_account.proofs.OfRules.Waits.{no_hello_behind}
 
 -- ---- what stands in an account fits
 

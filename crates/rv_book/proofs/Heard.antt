@@ -14,22 +14,22 @@ use Rattle.rv_text.specs.Limits.{FitsMessage}
 use Rattle.rv_account.specs.declared.entry.Entry.{Entry}
 use Rattle.rv_account.specs.Account.{Account, entry, key_in, with_entry}
 use Rattle.rv_account.specs.Limits.{FitsAct, FitsEntry, max_moment}
-use Rattle.rv_rules.specs.Legal.{Legal, MayFollow}
-use Rattle.rv_rules.specs.Sessions.{SaidHello}
-use Rattle.rv_rules.specs.Limits.{FitsAccount}
-use Rattle.rv_rules.specs.StepLimits.{StepLimits, book_limits, max_clients, max_entries}
-use Rattle.rv_rules.specs.Steps.{NextAt}
-use Rattle.rv_rules.proofs.FewClients.{ClientsAtMost}
-use Rattle.rv_rules.proofs.Legality.{follows_itself}
-use Rattle.rv_rules.proofs.RoomKept.{RoomAtMost, clients_behind, room_behind}
-use Rattle.rv_state.specs.Agreement.{IsStateOf}
-use Rattle.rv_state.specs.After.{Following, following}
-use Rattle.rv_state.specs.Follows.{partners_of}
-use Rattle.rv_state.specs.Moves.{Move, StateNextAt, staying}
-use Rattle.rv_state.specs.State.{State, client_at, waiting_count}
-use Rattle.rv_state.proofs.KnownClients.{has_client}
-use Rattle.rv_state.proofs.Leading.{IsMoveTo}
-use Rattle.rv_state.proofs.StepsBoth.{next_at_from}
+use Rattle.rv_account.specs.rules.Legal.{Legal, MayFollow}
+use Rattle.rv_account.specs.rules.Sessions.{SaidHello}
+use Rattle.rv_account.specs.rules.Limits.{FitsAccount}
+use Rattle.rv_account.specs.rules.StepLimits.{StepLimits, book_limits, max_clients, max_entries}
+use Rattle.rv_account.specs.rules.Steps.{NextAt}
+use Rattle.rv_account.proofs.OfRules.FewClients.{ClientsAtMost}
+use Rattle.rv_account.proofs.OfRules.Legality.{follows_itself}
+use Rattle.rv_account.proofs.OfRules.RoomKept.{RoomAtMost, clients_behind, room_behind}
+use Rattle.rv_account.specs.state.Agreement.{IsStateOf}
+use Rattle.rv_account.specs.state.After.{Following, following}
+use Rattle.rv_account.specs.state.Follows.{partners_of}
+use Rattle.rv_account.specs.state.Moves.{Move, StateNextAt, staying}
+use Rattle.rv_account.specs.state.State.{State, client_at, waiting_count}
+use Rattle.rv_account.proofs.OfState.KnownClients.{has_client}
+use Rattle.rv_account.proofs.OfState.Leading.{IsMoveTo}
+use Rattle.rv_account.proofs.OfState.StepsBoth.{next_at_from}
 use Rattle.rv_book.specs.reply_cache.Keeping.{AreKept, client_of}
 use Rattle.rv_machine.specs.Machines.{Says, keys_settled, state_in}
 use Rattle.rv_machine.specs.Needing.{IsHello, act_of}

@@ -9,9 +9,9 @@ use Rattle.std.specs.FinMap.{get, insert}
 use Rattle.std.specs.List.{slice_get}
 use Rattle.rv_session.specs.declared.kept.Kept.{Kept}
 use Rattle.rv_text.specs.declared.message.Key.{Key}
-use Rattle.rv_rules.proofs.Numbers.{same_or_not}
-use Rattle.rv_state.specs.State.{State}
-use Rattle.rv_state.proofs.ToldClients.{get_own, get_other}
+use Rattle.rv_account.proofs.OfRules.Numbers.{same_or_not}
+use Rattle.rv_account.specs.state.State.{State}
+use Rattle.rv_account.proofs.OfState.ToldClients.{get_own, get_other}
 use Rattle.rv_book.specs.Operations.{AreKnown, Kepts, kept_in, keeping, keeping_all}
 
 -- one of these keys is the client's

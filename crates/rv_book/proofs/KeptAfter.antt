@@ -7,12 +7,12 @@ use Rattle.std.specs.List.{slice_get}
 use Rattle.rv_text.specs.declared.message.Key.{Key}
 use Rattle.rv_account.specs.declared.entry.Entry.{Entry}
 use Rattle.rv_account.specs.Account.{Account}
-use Rattle.rv_rules.proofs.Numbers.{same_or_not}
-use Rattle.rv_state.specs.State.{ClientState, State, client_at}
-use Rattle.rv_state.specs.After.{Settled, following}
-use Rattle.rv_state.specs.Moves.{told_again}
-use Rattle.rv_state.proofs.Coming.{Comes}
-use Rattle.rv_state.proofs.ToldClients.{get_own, get_other}
+use Rattle.rv_account.proofs.OfRules.Numbers.{same_or_not}
+use Rattle.rv_account.specs.state.State.{ClientState, State, client_at}
+use Rattle.rv_account.specs.state.After.{Settled, following}
+use Rattle.rv_account.specs.state.Moves.{told_again}
+use Rattle.rv_account.proofs.OfState.Coming.{Comes}
+use Rattle.rv_account.proofs.OfState.ToldClients.{get_own, get_other}
 use Rattle.rv_book.specs.reply_cache.Keeping.{AreKept, IsKept, IsKeptAs, client_of, front_of, kept_again}
 use Rattle.rv_book.specs.reply_cache.Keeping.{source_of}
 use Rattle.rv_book.proofs.KeptReplies.OwnKept.{own_kept}

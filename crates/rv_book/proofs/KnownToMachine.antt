@@ -9,19 +9,19 @@ use Rattle.rv_account.specs.declared.entry.Act.{Act}
 use Rattle.rv_account.specs.declared.entry.Act.TheVariants.{Arrive, Cancel, Hello, Tick}
 use Rattle.rv_account.specs.declared.entry.Entry.{Entry}
 use Rattle.rv_account.specs.Account.{Account, act_at, key_in, with_entry}
-use Rattle.rv_rules.specs.Legal.{Legal, MayFollow}
-use Rattle.rv_rules.specs.Sessions.{HasIncarnation, SaidHello}
-use Rattle.rv_rules.proofs.Fronts.{read_whole}
-use Rattle.rv_rules.proofs.Growing.{act_read, reads_on}
-use Rattle.rv_rules.proofs.Places.{get-append_end}
-use Rattle.rv_rules.proofs.Waits.{arrival}
-use Rattle.rv_state.specs.Agreement.{IsStateOf}
-use Rattle.rv_state.specs.State.{State, client_at}
-use Rattle.rv_state.specs.After.{Settled, following}
-use Rattle.rv_state.proofs.Coming.{Comes}
-use Rattle.rv_state.proofs.KnownClients.{has_client}
-use Rattle.rv_state.proofs.Stated.{stated}
-use Rattle.rv_state.proofs.Telling.{settled_replies}
+use Rattle.rv_account.specs.rules.Legal.{Legal, MayFollow}
+use Rattle.rv_account.specs.rules.Sessions.{HasIncarnation, SaidHello}
+use Rattle.rv_account.proofs.OfRules.Fronts.{read_whole}
+use Rattle.rv_account.proofs.OfRules.Growing.{act_read, reads_on}
+use Rattle.rv_account.proofs.OfRules.Places.{get-append_end}
+use Rattle.rv_account.proofs.OfRules.Waits.{arrival}
+use Rattle.rv_account.specs.state.Agreement.{IsStateOf}
+use Rattle.rv_account.specs.state.State.{State, client_at}
+use Rattle.rv_account.specs.state.After.{Settled, following}
+use Rattle.rv_account.proofs.OfState.Coming.{Comes}
+use Rattle.rv_account.proofs.OfState.KnownClients.{has_client}
+use Rattle.rv_account.proofs.OfState.Stated.{stated}
+use Rattle.rv_account.proofs.OfState.Telling.{settled_replies}
 use Rattle.rv_book.specs.reply_cache.Keeping.{AreKept, client_of}
 use Rattle.rv_machine.specs.Machines.{keys_settled}
 use Rattle.rv_book.specs.Operations.{AreKnown, Kepts}

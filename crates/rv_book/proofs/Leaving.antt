@@ -6,11 +6,11 @@ use Rattle.rv_book.proofs.Words.{read_there, cases_lt, cases_order, partner_open
 use Rattle.rv_book.proofs.Words.{one_side, same_Some, slice_get}
 use Rattle.rv_book.specs.Laws.{ItemsLeaveInOrder}
 use Rattle.rv_book.specs.Order.{MayTakeSeveral, PairAt, TakesInTurn}
-use Rattle.rv_rules.proofs.OnePartner.{named_once, names_and_named, names_both}
-use Rattle.rv_rules.proofs.CallKinds.{staying_single}
-use Rattle.rv_rules.proofs.Naming.{among_none, first_among, two_among}
-use Rattle.rv_rules.proofs.Fronts.{named_in_front, naming, open_in_shorter}
-use Rattle.rv_rules.proofs.Sides.{partner_before}
+use Rattle.rv_account.proofs.OfRules.OnePartner.{named_once, names_and_named, names_both}
+use Rattle.rv_account.proofs.OfRules.CallKinds.{staying_single}
+use Rattle.rv_account.proofs.OfRules.Naming.{among_none, first_among, two_among}
+use Rattle.rv_account.proofs.OfRules.Fronts.{named_in_front, naming, open_in_shorter}
+use Rattle.rv_account.proofs.OfRules.Sides.{partner_before}
 
 -- ---- sides in fronts
 

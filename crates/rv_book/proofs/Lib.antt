@@ -17,3 +17,4 @@ pub mod RoomMade
 pub mod Said
 pub mod Opened
 pub mod KeptReplies
+pub mod OfLines

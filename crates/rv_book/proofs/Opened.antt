@@ -6,16 +6,16 @@ use Rattle.std.specs.Ordering.{nat_cmp}
 use Rattle.rv_text.specs.Limits.{FitsIdentifier}
 use Rattle.rv_account.specs.Account.{Account, Stored}
 use Rattle.rv_account.specs.Limits.{max_moment}
-use Rattle.rv_rules.specs.Legal.{Legal}
-use Rattle.rv_rules.specs.Limits.{FitsAccount}
-use Rattle.rv_rules.specs.Waiting.{Waiting}
-use Rattle.rv_rules.proofs.Counting.{one_number}
-use Rattle.rv_rules.specs.StepLimits.{max_clients}
-use Rattle.rv_rules.proofs.FewClients.{few_none}
-use Rattle.rv_state.specs.Agreement.{IsStateOf}
-use Rattle.rv_state.specs.State.{State, opening, waiting_count}
-use Rattle.rv_state.proofs.Agreed.{agreed}
-use Rattle.rv_state.proofs.WhoWaits.{tells_waiting}
+use Rattle.rv_account.specs.rules.Legal.{Legal}
+use Rattle.rv_account.specs.rules.Limits.{FitsAccount}
+use Rattle.rv_account.specs.rules.Waiting.{Waiting}
+use Rattle.rv_account.proofs.OfRules.Counting.{one_number}
+use Rattle.rv_account.specs.rules.StepLimits.{max_clients}
+use Rattle.rv_account.proofs.OfRules.FewClients.{few_none}
+use Rattle.rv_account.specs.state.Agreement.{IsStateOf}
+use Rattle.rv_account.specs.state.State.{State, opening, waiting_count}
+use Rattle.rv_account.proofs.OfState.Agreed.{agreed}
+use Rattle.rv_account.proofs.OfState.WhoWaits.{tells_waiting}
 use Rattle.rv_book.specs.reply_cache.Table.{KeptTable}
 use Rattle.rv_machine.specs.Machines.{state_in}
 use Rattle.rv_machine.specs.declared.machine.Machine.{Machine}

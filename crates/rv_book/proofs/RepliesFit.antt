@@ -15,11 +15,11 @@ use Rattle.rv_text.proofs.Kept.{received_fits, swapped_fits, timed_out_fits}
 use Rattle.rv_text.specs.declared.answer.Reply.TheVariants as reply
 use Rattle.rv_text.specs.declared.call.Call.TheVariants as call
 use Rattle.rv_book.specs.Replies.{IsFrontItem, RepliesMet, RepliesUnmet}
-use Rattle.rv_rules.proofs.Counting.{number_below}
-use Rattle.rv_rules.proofs.Deciding.{find_waiting}
-use Rattle.rv_rules.proofs.Getting.{given_fits}
-use Rattle.rv_rules.proofs.WithinLimits.{call_of_act, key_of_act}
-use Rattle.rv_state.proofs.UnmetReplies.{by_lasting, told_at_once}
+use Rattle.rv_account.proofs.OfRules.Counting.{number_below}
+use Rattle.rv_account.proofs.OfRules.Deciding.{find_waiting}
+use Rattle.rv_account.proofs.OfRules.Getting.{given_fits}
+use Rattle.rv_account.proofs.OfRules.WithinLimits.{call_of_act, key_of_act}
+use Rattle.rv_account.proofs.OfState.UnmetReplies.{by_lasting, told_at_once}
 use Rattle.rv_book.proofs.Drains.{fits_drained}
 
 abbrev pub FitsIn : ℕ → Reply → Type 0

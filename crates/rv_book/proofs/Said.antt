@@ -7,8 +7,8 @@ use Rattle.rv_text.specs.declared.answer.Answer.TheVariants as answer
 use Rattle.rv_text.specs.declared.answer.Reply.{Reply}
 use Rattle.rv_session.specs.declared.kept.Kept.{Kept}
 use Rattle.rv_account.specs.declared.entry.Entry.{Entry}
-use Rattle.rv_state.specs.Moves.{answer_told, told_again}
-use Rattle.rv_state.specs.State.{State}
+use Rattle.rv_account.specs.state.Moves.{answer_told, told_again}
+use Rattle.rv_account.specs.state.State.{State}
 use Rattle.rv_book.specs.reply_cache.Keeping.{AreKept, IsKeptAs}
 use Rattle.rv_machine.specs.Machines.{Says}
 use Rattle.rv_machine.specs.declared.machine.Said.TheVariants.{Told}

@@ -10,11 +10,11 @@ use Rattle.rv_account.specs.Account.{Extends}
 use Rattle.rv_book.proofs.KeptReplies.KeptOn.{told_on}
 use Rattle.rv_book.specs.Replies.{RepliesToArrival}
 use Rattle.rv_book.specs.Laws.{RepliesStay, StepsExtend}
-use Rattle.rv_rules.specs.StepLimits.{book_limits}
-use Rattle.rv_rules.proofs.OnePartner.{arrives_first}
-use Rattle.rv_state.proofs.Extending.{steps_extend_under}
-use Rattle.rv_state.proofs.OneTold.{one_reply}
-use Rattle.rv_state.proofs.StayingReplies.{reply_stays}
+use Rattle.rv_account.specs.rules.StepLimits.{book_limits}
+use Rattle.rv_account.proofs.OfRules.OnePartner.{arrives_first}
+use Rattle.rv_account.proofs.OfState.Extending.{steps_extend_under}
+use Rattle.rv_account.proofs.OfState.OneTold.{one_reply}
+use Rattle.rv_account.proofs.OfState.StayingReplies.{reply_stays}
 
 -- ---- a step only adds
 

@@ -7,19 +7,19 @@ use Rattle.rv_account.specs.declared.entry.Act.TheVariants.{Tick}
 use Rattle.rv_account.specs.declared.entry.Entry.{Entry}
 use Rattle.rv_account.specs.Account.{Account, entry, with_entry}
 use Rattle.rv_account.specs.Limits.{FitsEntry, max_moment}
-use Rattle.rv_rules.specs.Legal.{Legal}
-use Rattle.rv_rules.specs.Limits.{FitsAccount}
-use Rattle.rv_rules.specs.Steps.{Ticks, capped_moment, step_moment}
-use Rattle.rv_rules.specs.StepLimits.{max_clients, max_entries}
-use Rattle.rv_rules.proofs.FewClients.{ClientsAtMost}
-use Rattle.rv_rules.proofs.Legality.{follows_itself}
-use Rattle.rv_rules.proofs.RoomKept.{RoomAtMost, ticked_clients, ticked_room}
-use Rattle.rv_state.specs.Agreement.{IsStateOf}
-use Rattle.rv_state.specs.After.{Following, due_at, following}
-use Rattle.rv_state.specs.Moves.{Ticked, state_moment, ticked_at, ticked_if, ticking, unticked}
-use Rattle.rv_state.specs.State.{OpenPlace, State, waiting_count}
-use Rattle.rv_state.proofs.TicksBoth.{TicksTo, ticks_from, ticks_to}
-use Rattle.rv_state.specs.Follows.{partners_of}
+use Rattle.rv_account.specs.rules.Legal.{Legal}
+use Rattle.rv_account.specs.rules.Limits.{FitsAccount}
+use Rattle.rv_account.specs.rules.Steps.{Ticks, capped_moment, step_moment}
+use Rattle.rv_account.specs.rules.StepLimits.{max_clients, max_entries}
+use Rattle.rv_account.proofs.OfRules.FewClients.{ClientsAtMost}
+use Rattle.rv_account.proofs.OfRules.Legality.{follows_itself}
+use Rattle.rv_account.proofs.OfRules.RoomKept.{RoomAtMost, ticked_clients, ticked_room}
+use Rattle.rv_account.specs.state.Agreement.{IsStateOf}
+use Rattle.rv_account.specs.state.After.{Following, due_at, following}
+use Rattle.rv_account.specs.state.Moves.{Ticked, state_moment, ticked_at, ticked_if, ticking, unticked}
+use Rattle.rv_account.specs.state.State.{OpenPlace, State, waiting_count}
+use Rattle.rv_account.proofs.OfState.TicksBoth.{TicksTo, ticks_from, ticks_to}
+use Rattle.rv_account.specs.state.Follows.{partners_of}
 use Rattle.rv_book.specs.reply_cache.Keeping.{AreKept, client_of}
 use Rattle.rv_machine.specs.Machines.{keys_settled, state_in}
 use Rattle.rv_machine.specs.Stepping.{IsTick}

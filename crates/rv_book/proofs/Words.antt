@@ -26,17 +26,17 @@ pub use Rattle.rv_book.specs.Tables.{IsSound, account_of}
 pub use Rattle.rv_book.specs.Verdicts.{IsAsKept, reply_of}
 pub use Rattle.rv_book.specs.Waiting.{NamesPartner, OpenAt, SideAt}
 pub use Rattle.rv_book.specs.declared.state.BookState.{BookState}
-pub use Rattle.rv_rules.proofs.CallKinds.{gives_item}
-pub use Rattle.rv_rules.proofs.Fronts.{read_front, read_whole}
-pub use Rattle.rv_rules.proofs.Growing.{act_read, call_read, read_there, reads_on}
-pub use Rattle.rv_rules.proofs.Growing.{reads_within}
-pub use Rattle.rv_rules.proofs.Keys.{key_read, no_hello}
-pub use Rattle.rv_rules.proofs.WithinLimits.{act_fits, act_there}
-pub use Rattle.rv_rules.proofs.OnePartner.{partner_open}
-pub use Rattle.rv_rules.proofs.Opposites.{one_opposite}
-pub use Rattle.rv_rules.proofs.Places.{get-append_within}
-pub use Rattle.rv_rules.proofs.Sides.{one_side}
-pub use Rattle.rv_rules.proofs.Waits.{arrival}
+pub use Rattle.rv_account.proofs.OfRules.CallKinds.{gives_item}
+pub use Rattle.rv_account.proofs.OfRules.Fronts.{read_front, read_whole}
+pub use Rattle.rv_account.proofs.OfRules.Growing.{act_read, call_read, read_there, reads_on}
+pub use Rattle.rv_account.proofs.OfRules.Growing.{reads_within}
+pub use Rattle.rv_account.proofs.OfRules.Keys.{key_read, no_hello}
+pub use Rattle.rv_account.proofs.OfRules.WithinLimits.{act_fits, act_there}
+pub use Rattle.rv_account.proofs.OfRules.OnePartner.{partner_open}
+pub use Rattle.rv_account.proofs.OfRules.Opposites.{one_opposite}
+pub use Rattle.rv_account.proofs.OfRules.Places.{get-append_within}
+pub use Rattle.rv_account.proofs.OfRules.Sides.{one_side}
+pub use Rattle.rv_account.proofs.OfRules.Waits.{arrival}
 pub use Rattle.rv_session.specs.declared.kept.Kept.{Kept}
 pub use Rattle.rv_text.specs.Calls.{item_of, side_of}
 pub use Rattle.rv_text.specs.Limits.{FitsItem}

@@ -1,2 +1,2 @@
--- Re-exported from rv_rules: how many places have a property.
-pub use Rattle.rv_rules.specs.Counting.{NumberOf}
+-- Re-exported from rv_account: how many places have a property.
+pub use Rattle.rv_account.specs.rules.Counting.{NumberOf}

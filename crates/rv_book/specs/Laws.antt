@@ -3,9 +3,9 @@ use Rattle.std.specs.Prelude.{◌≡◌, ℕ}
 use Rattle.rv_text.specs.declared.message.Key.{Key}
 use Rattle.rv_text.specs.declared.answer.Reply.{Reply}
 use Rattle.rv_account.specs.Account.{Account, Extends}
-use Rattle.rv_rules.specs.StepLimits.{book_limits}
-use Rattle.rv_state.specs.StepLaws.{CancelsCanEnterUnder, HellosCanEnterUnder, OneNextUnder}
-use Rattle.rv_state.specs.StepLaws.{RequestsCanEnterUnder, StepsExtendUnder}
+use Rattle.rv_account.specs.rules.StepLimits.{book_limits}
+use Rattle.rv_account.specs.state.StepLaws.{CancelsCanEnterUnder, HellosCanEnterUnder, OneNextUnder}
+use Rattle.rv_account.specs.state.StepLaws.{RequestsCanEnterUnder, StepsExtendUnder}
 use Rattle.rv_book.specs.Legal.{Legal}
 use Rattle.rv_book.specs.Replies.{HasReply}
 use Rattle.rv_book.specs.Steps.{Ticks, step_moment}

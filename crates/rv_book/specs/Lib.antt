@@ -16,3 +16,4 @@ pub mod Tables
 -- What only private clauses and proofs cite.
 pub mod Operations
 pub mod reply_cache
+pub mod lines

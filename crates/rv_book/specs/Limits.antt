@@ -1,2 +1,2 @@
--- Re-exported from rv_rules: the limits of an account.
-pub use Rattle.rv_rules.specs.Limits.{FitsAccount, FitEntries, FitsAct, FitsEntry}
+-- Re-exported from rv_account: the limits of an account.
+pub use Rattle.rv_account.specs.rules.Limits.{FitsAccount, FitEntries, FitsAct, FitsEntry}

@@ -9,11 +9,11 @@ use Rattle.rv_text.specs.declared.answer.Answer.{Answer}
 use Rattle.rv_session.specs.declared.kept.Kept.{Kept}
 use Rattle.rv_account.specs.declared.entry.Entry.{Entry}
 use Rattle.rv_account.specs.Account.{Account, with_entry}
-use Rattle.rv_state.specs.State.{State, client_at, waiting_count}
-use Rattle.rv_state.specs.After.{due_at, following}
-use Rattle.rv_state.specs.Agreement.{IsStateOf}
-use Rattle.rv_state.specs.Follows.{partners_of}
-use Rattle.rv_state.specs.Moves.{Move, StateNextAt}
+use Rattle.rv_account.specs.state.State.{State, client_at, waiting_count}
+use Rattle.rv_account.specs.state.After.{due_at, following}
+use Rattle.rv_account.specs.state.Agreement.{IsStateOf}
+use Rattle.rv_account.specs.state.Follows.{partners_of}
+use Rattle.rv_account.specs.state.Moves.{Move, StateNextAt}
 use Rattle.rv_account.specs.Limits.{FitsAct}
 use Rattle.rv_book.specs.reply_cache.Keeping.{AreKept, client_of, front_of, kept_again, source_of}
 use Rattle.rv_book.specs.reply_cache.Table.{KeptTable}

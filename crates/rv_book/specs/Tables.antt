@@ -3,8 +3,8 @@ use Rattle.std.specs.Prelude.{◌≤◌}
 use Rattle.rv_account.specs.Account.{Account}
 use Rattle.rv_book.specs.reply_cache.Keeping.{AreKept}
 use Rattle.rv_machine.specs.Machines.{state_in}
-use Rattle.rv_state.specs.Agreement.{IsStateOf}
-use Rattle.rv_state.specs.State.{State, waiting_count}
+use Rattle.rv_account.specs.state.Agreement.{IsStateOf}
+use Rattle.rv_account.specs.state.State.{State, waiting_count}
 use Rattle.rv_book.specs.declared.state.BookState.{BookState}
 use Rattle.rv_book.specs.Legal.{Legal}
 use Rattle.rv_book.specs.Limits.{FitsAccount}

@@ -10,6 +10,7 @@
 
 mod book;
 pub mod laws;
+pub mod lines;
 mod reply_cache;
 mod state;
 mod verdict;

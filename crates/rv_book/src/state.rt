@@ -2,7 +2,7 @@
 ghost use Rattle.std.specs.Prelude.{◌≡◌, ◌<◌, [], None, Some, IfOk, IsSome, OnErr, OnOk};
 ghost use Rattle.std.specs.FinMap.{get, insert};
 ghost use Rattle.rv_text.specs.Limits.{FitsIdentifier, FitsMessage};
-ghost use Rattle.rv_state.specs.State.{client_at};
+ghost use Rattle.rv_account.specs.state.State.{client_at};
 ghost use Rattle.rv_book.specs.reply_cache.Keeping.{client_of, front_of};
 ghost use Rattle.rv_account.specs.Limits.{FitsAct};
 ghost use Rattle.rv_machine.specs.Machines.{state_in};
@@ -10,9 +10,9 @@ ghost use Rattle.rv_book.specs.Operations.{AreKnown, MayKeep, kept_after, kept_i
 
 use crate::reply_cache::{KeptReplies, kept_again, source};
 use crate::verdict::KeptAnswer;
+use rv_account::rules::Limits;
 use rv_account::{Account, Act, Entry};
 use rv_machine::{Heard, Machine, Said, TickMade, message_need};
-use rv_rules::Limits;
 use rv_session::Place;
 use rv_text::{Message, NoMemory, Refusal, Side};
 use std::alloc::Global;
@@ -105,10 +105,10 @@ fn keep_told(machine: &Machine, kept: &mut KeptReplies, entry: &Entry, place: Pl
 
 impl BookState {
     ghost use Rattle.std.specs.Prelude.{◌^◌, ◌+◌, min, true};
-    ghost use Rattle.rv_state.specs.State.{waiting_count};
+    ghost use Rattle.rv_account.specs.state.State.{waiting_count};
     ghost use Rattle.rv_text.specs.declared.answer.Answer.{Answer};
     ghost use Rattle.rv_account.specs.Account.{with_entry};
-    ghost use Rattle.rv_rules.specs.StepLimits.{book_limits};
+    ghost use Rattle.rv_account.specs.rules.StepLimits.{book_limits};
     ghost use Rattle.rv_machine.specs.Machines.{Says};
     ghost use Rattle.rv_machine.specs.Needing.{MayLackMemory, message_need};
     ghost use Rattle.rv_book.specs.Operations.{Becomes, BecomesAfterTicks, HasRoomFor, IsAhead, IsQuiet};

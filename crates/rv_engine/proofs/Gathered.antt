@@ -5,7 +5,7 @@ use Rattle.std.proofs.Common.{append_assoc, drop, get_or, length, refl, subst, s
 use Rattle.std.proofs.Math.Seq.{drop-nil, take-suc}
 use Rattle.std.proofs.lemmas.List.{take-append-drop, take_all, take_rest}
 use Rattle.rv_account.specs.declared.entry.Entry.{Entry}
-use Rattle.rv_lines.specs.Written.{entry_text}
+use Rattle.rv_book.specs.lines.Written.{entry_text}
 use Rattle.rv_engine.specs.Handing.{GathersFront, entries_kept, entry_lines}
 
 pub lines_append : (front more : List Entry) → entry_lines (front ++ more) ≡ entry_lines front ++ entry_lines

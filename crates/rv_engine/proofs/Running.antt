@@ -5,8 +5,8 @@ use Rattle.std.proofs.Common.{arith, length, length-append, subst, sym}
 use Rattle.std.specs.Prelude.{flat_map}
 use Rattle.rv_account.specs.declared.entry.Entry.{Entry}
 use Rattle.rv_account.specs.Account.{Account}
-use Rattle.rv_lines.specs.Lines.{printed_lines}
-use Rattle.rv_lines.specs.Written.{account_lines, head_text}
+use Rattle.rv_book.specs.lines.Lines.{printed_lines}
+use Rattle.rv_book.specs.lines.Written.{account_lines, head_text}
 use Rattle.rv_hub.specs.dispatcher.View.{DispatcherState, DispatcherTerms}
 use Rattle.rv_hub.specs.EventEffects.{all_effects, causes_of}
 use Rattle.rv_hub.specs.HubRuns.{AddsEntries, HubAnswer, RunsHub, made_in, run_effects}

@@ -5,9 +5,9 @@ use Rattle.std.specs.List.{All}
 use Rattle.rv_account.specs.declared.entry.Entry.{Entry}
 use Rattle.rv_account.specs.Account.{Account}
 use Rattle.rv_account.specs.Limits.{max_moment}
-use Rattle.rv_rules.specs.StepLimits.{AreStepLimits}
-use Rattle.rv_lines.specs.Lines.{printed_lines}
-use Rattle.rv_lines.specs.Written.{account_lines}
+use Rattle.rv_account.specs.rules.StepLimits.{AreStepLimits}
+use Rattle.rv_book.specs.lines.Lines.{printed_lines}
+use Rattle.rv_book.specs.lines.Written.{account_lines}
 use Rattle.rv_server_connections.specs.connection.History.{given_bytes}
 use Rattle.rv_server_connections.specs.connection.Traffic.{AnswerByte, Traffic, bytes_of}
 use Rattle.rv_hub.specs.dispatcher.View.{DispatcherTerms}

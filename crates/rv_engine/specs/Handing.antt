@@ -4,8 +4,8 @@ use Rattle.std.specs.Prelude.{length}
 use Rattle.std.specs.Prelude.{None, Option, Some, map, take}
 use Rattle.rv_account.specs.declared.entry.Entry.{Entry}
 use Rattle.rv_frame.specs.Lasting.{LastingDevice, TakesBytes}
-use Rattle.rv_lines.specs.Lines.{printed_lines}
-use Rattle.rv_lines.specs.Written.{entry_text}
+use Rattle.rv_book.specs.lines.Lines.{printed_lines}
+use Rattle.rv_book.specs.lines.Written.{entry_text}
 use Rattle.rv_hub.specs.dispatcher.View.{DispatcherTerms, begun}
 use Rattle.rv_hub.specs.dispatcher.Runs.{ListsChanged}
 use Rattle.rv_hub.specs.declared.events.EventRefusal.{EventRefusal}

@@ -1,11 +1,11 @@
 //! Gathers the lines of entries.
 ghost use Rattle.std.specs.Prelude.{◌≡◌, ◌≤◌, ◌++◌, [], ◌∷◌, drop, false, length, string_bytes, take};
 ghost use Rattle.std.specs.Prelude.{OnErr, OnOk};
-ghost use Rattle.rv_lines.specs.Written.{entry_text};
+ghost use Rattle.rv_book.specs.lines.Written.{entry_text};
 ghost use Rattle.rv_engine.specs.Handing.{GathersFront, entries_kept, entry_lines};
 
 use rv_account::Entry;
-use rv_lines::entry_line;
+use rv_book::lines::entry_line;
 use rv_text::NoMemory;
 use std::alloc::Global;
 

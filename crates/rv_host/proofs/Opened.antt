@@ -1,15 +1,15 @@
 -- A machine without entries, whose state can be resumed from.
 use Rattle.std.proofs.Common.{[], ◌≡◌, ◌≤◌, ℕ, arith, refl, subst, sym}
 use Rattle.rv_account.specs.Limits.{max_moment}
-use Rattle.rv_rules.specs.Steps.{capped_moment}
-use Rattle.rv_state.specs.State.{opening}
+use Rattle.rv_account.specs.rules.Steps.{capped_moment}
+use Rattle.rv_account.specs.state.State.{opening}
 use Rattle.rv_hub.specs.dispatcher.View.{DispatcherState}
 use Rattle.rv_engine.specs.Engines.{EngineState}
 use Rattle.rv_engine.specs.EngineRuns.{BeginsStored}
 use Rattle.rv_machine.specs.Machines.{state_in}
 use Rattle.rv_machine.specs.declared.machine.Machine.{Machine}
-use Rattle.rv_state.specs.resume.Resuming.{CanResume}
-use Rattle.rv_state.proofs.Resumed.ResumeLaws.{openings_resume}
+use Rattle.rv_account.specs.state.resume.Resuming.{CanResume}
+use Rattle.rv_account.proofs.OfState.Resumed.ResumeLaws.{openings_resume}
 use Rattle.rv_words.specs.options.Numbers.{Fits}
 use Rattle.rv_words.specs.declared.options.number.HostNumber.TheVariants as number
 

@@ -1,6 +1,6 @@
 //! Why a server ends.
 use rv_frame::WriteFault;
-use rv_server_account::KeepFault;
+use rv_store::keeping::KeepFault;
 use std::alloc::{AllocError, AllocFailed};
 use std::io::ErrorKind;
 use std::{fmt, io};

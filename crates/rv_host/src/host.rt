@@ -10,7 +10,7 @@ use crate::fault::HostEnd;
 use crate::report::HostReport;
 use crate::shell::Shell;
 use crate::start::{begin, begin_in_store};
-use rv_server_account::Keeper;
+use rv_store::keeping::Keeper;
 use rv_words::options::{HostFault, HostOptions, read_host};
 use std::io::Write;
 

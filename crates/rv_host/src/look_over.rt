@@ -1,6 +1,6 @@
 //! The look over all connections, which closes those that are idle or stall.
 ghost use Rattle.std.specs.Prelude.{◌≡◌};
-ghost use Rattle.rv_log.specs.declared.kind.FaultKind.TheVariants as fault;
+ghost use Rattle.rv_survey.specs.declared.log.kind.FaultKind.TheVariants as fault;
 ghost use Rattle.rv_traffic.specs.CallRuns.{OnlyCalls};
 ghost use Rattle.rv_traffic.specs.declared.times.OverdueKind.TheVariants as over;
 

@@ -2,8 +2,8 @@
 use httpdate::HttpDate;
 use libc::net::{POLLERR, POLLHUP, POLLNVAL, POLLOUT, poll};
 use libc::types::pollfd;
-pub(crate) use rv_log::FaultKind;
-use rv_log::{FaultTally, fault_text, line};
+pub(crate) use rv_survey::log::FaultKind;
+use rv_survey::log::{FaultTally, fault_text, line};
 use std::env;
 use std::env::VarError;
 use std::io::Write;

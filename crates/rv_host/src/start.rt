@@ -6,7 +6,7 @@ ghost use Rattle.rv_host.specs.Turns.{HasItsAccount};
 ghost use Rattle.rv_host.specs.Wishes.{wish_of};
 ghost use Rattle.rv_store.specs.Entered.{AreEpochs};
 ghost use Rattle.rv_machine.specs.Machines.{state_in};
-ghost use Rattle.rv_state.specs.resume.Resuming.{CanResume};
+ghost use Rattle.rv_account.specs.state.resume.Resuming.{CanResume};
 ghost use Rattle.rv_words.specs.options.Numbers.{Fits};
 ghost use Rattle.rv_words.specs.options.Options.{FitOptions};
 ghost use Rattle.rv_words.specs.declared.options.number.HostNumber.TheVariants as number;
@@ -21,15 +21,15 @@ use crate::turn_clock::first_moment;
 use libc::types::rlimit;
 use libc::{RLIMIT_NOFILE, getrlimit};
 use mio::net::TcpListener;
+use rv_account::rules::Limits;
 use rv_engine::Engine;
 use rv_hub::DEFAULT_PATIENCE;
-use rv_log::{StartSaid, call_text, start_text};
 use rv_machine::Machine;
-use rv_rules::Limits;
-use rv_server_account::{
+use rv_store::keeping::{
     AccountFile, Keeper, StoreAccount, StoreRules, StoreStart, begin_file, enter,
 };
 use rv_store::{EpochChoice, EpochWish};
+use rv_survey::log::{StartSaid, call_text, start_text};
 use rv_words::options::{HostOptions, VERSION};
 use std::alloc::AllocError;
 use std::fs::File;

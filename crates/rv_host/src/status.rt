@@ -10,11 +10,11 @@ use crate::shell::Shell;
 use crate::turn_clock::TurnClock;
 use mio::net::{TcpListener, TcpStream};
 use rv_hub::Hub;
-use rv_server_account::Keeper;
 use rv_status::{
     FaultCounts, HostStatus, StatusNumbers, StatusPages, StatusSample, StatusTimes, WaitingRow,
     take_sample,
 };
+use rv_store::keeping::Keeper;
 use rv_survey::{Sights, list_queues, renew, unheard_row, waiting_row};
 use rv_words::options::{HostOptions, VERSION};
 use std::alloc::{AllocError, Global};

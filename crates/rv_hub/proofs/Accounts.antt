@@ -17,19 +17,20 @@ use Rattle.rv_account.specs.Account.{Account, own_moment}
 use Rattle.rv_account.specs.Limits.{max_moment}
 use Rattle.rv_session.specs.declared.client.LastRequest.{LastRequest}
 use Rattle.rv_session.specs.declared.client.LastRequest.TheVariants.{CancelledUnseen, Fresh, RepliedTo, Waits}
-use Rattle.rv_rules.specs.Legal.{Legal}
-use Rattle.rv_rules.specs.StepLimits.{AreStepLimits, StepLimits}
-use Rattle.rv_rules.specs.Steps.{Answers, NextUnder, OldIncarnationDue}
-use Rattle.rv_state.specs.After.{due_at, state_of}
-use Rattle.rv_state.specs.resume.Resuming.{CanResume}
-use Rattle.rv_state.specs.Agreement.{BecameOf, IsClientOrNew}
-use Rattle.rv_state.specs.Moves.{Move, StateNextAtUnder, StateNextUnder, Ticked, answer_told, state_moment}
-use Rattle.rv_state.specs.Moves.{ticked_at, ticked_if, told_again}
-use Rattle.rv_state.specs.Moves.{unticked}
-use Rattle.rv_state.specs.State.{ClientState, State, client_at}
-use Rattle.rv_state.proofs.StateLaws.{moves_step_under, states_agree, ticks_step}
-use Rattle.rv_state.proofs.OfWaiting.OwnMoments.{none_due_now}
-use Rattle.rv_state.proofs.OfWaiting.WaitingLaws.{moves_last, ticks_last}
+use Rattle.rv_account.specs.rules.Legal.{Legal}
+use Rattle.rv_account.specs.rules.StepLimits.{AreStepLimits, StepLimits}
+use Rattle.rv_account.specs.rules.Steps.{Answers, NextUnder, OldIncarnationDue}
+use Rattle.rv_account.specs.state.After.{due_at, state_of}
+use Rattle.rv_account.specs.state.resume.Resuming.{CanResume}
+use Rattle.rv_account.specs.state.Agreement.{BecameOf, IsClientOrNew}
+use Rattle.rv_account.specs.state.Moves.{Move, StateNextAtUnder, StateNextUnder, Ticked, answer_told}
+use Rattle.rv_account.specs.state.Moves.{state_moment}
+use Rattle.rv_account.specs.state.Moves.{ticked_at, ticked_if, told_again}
+use Rattle.rv_account.specs.state.Moves.{unticked}
+use Rattle.rv_account.specs.state.State.{ClientState, State, client_at}
+use Rattle.rv_account.proofs.OfState.StateLaws.{moves_step_under, states_agree, ticks_step}
+use Rattle.rv_account.proofs.OfState.OfWaiting.OwnMoments.{none_due_now}
+use Rattle.rv_account.proofs.OfState.OfWaiting.WaitingLaws.{moves_last, ticks_last}
 use Rattle.rv_hub.specs.dispatcher.View.{DispatcherState, DispatcherTerms, begun}
 use Rattle.rv_hub.specs.dispatcher.Effects.{AnswersOrWaits, Effect, Does, DoesAll, DoesElapse, MakesStep}
 use Rattle.rv_hub.specs.dispatcher.Effects.{Stepped, entries_of_effect, Asked, Closed, Elapsed, EndedInput}

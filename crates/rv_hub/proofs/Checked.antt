@@ -2,7 +2,7 @@
 use Rattle.std.proofs.Common.{◌≡◌, ◌<◌, ◌⊎◌, [], ℕ, arith, refl, subst, sym}
 use Rattle.std.proofs.Common.{Bool, Err, IfErr, Ok, OnOk, Result, length}
 use Rattle.std.proofs.lemmas.Option.{none-some}
-use Rattle.rv_state.specs.State.{State}
+use Rattle.rv_account.specs.state.State.{State}
 use Rattle.rv_server_connections.specs.subscribers.Subscription.{nobody}
 use Rattle.rv_server_connections.specs.Connections.{HasWire, none_open}
 use Rattle.rv_hub.specs.dispatcher.View.{DispatcherState}

@@ -14,13 +14,14 @@ use Rattle.rv_text.proofs.Kept.{same_call}
 use Rattle.rv_account.specs.declared.entry.Act.{Act}
 use Rattle.rv_account.specs.declared.entry.Act.TheVariants as act
 use Rattle.rv_account.specs.Account.{Account, act_at}
-use Rattle.rv_rules.specs.Legal.{WaitsUnder}
-use Rattle.rv_rules.specs.StepLimits.{StepLimits}
-use Rattle.rv_rules.specs.Steps.{Adds, Answers, EntersOrNoMemory, NextAtUnder, NextUnder, OtherCallDue}
-use Rattle.rv_rules.specs.Steps.{PlaceLine, RefuseOr, Refuses, Repeats, Replies, WhereElse}
-use Rattle.rv_rules.proofs.Growing.{act_read}
-use Rattle.rv_rules.proofs.Lines.{RefuseOr-elim, WhereElse-elim}
-use Rattle.rv_rules.proofs.Places.{get-append_end}
+use Rattle.rv_account.specs.rules.Legal.{WaitsUnder}
+use Rattle.rv_account.specs.rules.StepLimits.{StepLimits}
+use Rattle.rv_account.specs.rules.Steps.{Adds, Answers, EntersOrNoMemory, NextAtUnder, NextUnder}
+use Rattle.rv_account.specs.rules.Steps.{OtherCallDue}
+use Rattle.rv_account.specs.rules.Steps.{PlaceLine, RefuseOr, Refuses, Repeats, Replies, WhereElse}
+use Rattle.rv_account.proofs.OfRules.Growing.{act_read}
+use Rattle.rv_account.proofs.OfRules.Lines.{RefuseOr-elim, WhereElse-elim}
+use Rattle.rv_account.proofs.OfRules.Places.{get-append_end}
 use Rattle.rv_hub.proofs.StepReplies.{key_lines, waiting_differs}
 
 -- the message is the request of the key, with the call with which that arrived

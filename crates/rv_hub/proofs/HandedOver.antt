@@ -19,15 +19,15 @@ use Rattle.rv_session.specs.declared.client.LastRequest.TheVariants.{CancelledUn
 use Rattle.rv_account.specs.declared.entry.Entry.{Entry}
 use Rattle.rv_account.specs.Account.{Account}
 use Rattle.rv_account.specs.Limits.{max_moment}
-use Rattle.rv_rules.specs.Replies.{HasReply}
-use Rattle.rv_rules.specs.StepLimits.{AreStepLimits}
-use Rattle.rv_state.specs.After.{state_of}
-use Rattle.rv_state.specs.Agreement.{BecameOf}
-use Rattle.rv_state.specs.Moves.{answer_told, told_again}
-use Rattle.rv_state.specs.State.{State}
-use Rattle.rv_state.proofs.StateLaws.{states_agree}
-use Rattle.rv_state.specs.resume.Resuming.{CanResume}
-use Rattle.rv_state.proofs.OfWaiting.WaitingLaws.{moves_answer, old_fits, told_fits}
+use Rattle.rv_account.specs.rules.Replies.{HasReply}
+use Rattle.rv_account.specs.rules.StepLimits.{AreStepLimits}
+use Rattle.rv_account.specs.state.After.{state_of}
+use Rattle.rv_account.specs.state.Agreement.{BecameOf}
+use Rattle.rv_account.specs.state.Moves.{answer_told, told_again}
+use Rattle.rv_account.specs.state.State.{State}
+use Rattle.rv_account.proofs.OfState.StateLaws.{states_agree}
+use Rattle.rv_account.specs.state.resume.Resuming.{CanResume}
+use Rattle.rv_account.proofs.OfState.OfWaiting.WaitingLaws.{moves_answer, old_fits, told_fits}
 use Rattle.rv_server_connections.specs.connection.History.{Given}
 use Rattle.rv_hub.specs.dispatcher.View.{DispatcherState, DispatcherTerms, begun}
 use Rattle.rv_hub.specs.dispatcher.Effects.{Effect, Does, DoesAll, Stepped, entries_of_effect, rests_on}

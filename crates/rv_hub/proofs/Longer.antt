@@ -10,11 +10,11 @@ use Rattle.rv_text.specs.declared.answer.Answer.TheVariants as answer
 use Rattle.rv_account.specs.declared.entry.Act.{Act}
 use Rattle.rv_account.specs.declared.entry.Act.TheVariants as act
 use Rattle.rv_account.specs.declared.entry.Entry.{Entry}
-use Rattle.rv_rules.specs.StepLimits.{StepLimits}
-use Rattle.rv_state.specs.After.{due_at, following}
-use Rattle.rv_state.specs.Moves.{Move, StateNextAtUnder, ticked_at, ticked_if}
-use Rattle.rv_state.specs.State.{OpenPlace, State}
-use Rattle.rv_state.proofs.Resumed.Counts.{length_acted}
+use Rattle.rv_account.specs.rules.StepLimits.{StepLimits}
+use Rattle.rv_account.specs.state.After.{due_at, following}
+use Rattle.rv_account.specs.state.Moves.{Move, StateNextAtUnder, ticked_at, ticked_if}
+use Rattle.rv_account.specs.state.State.{OpenPlace, State}
+use Rattle.rv_account.proofs.OfState.Resumed.Counts.{length_acted}
 use Rattle.rv_machine.specs.Needing.{act_of}
 use Rattle.rv_machine.proofs.RoomTaken.{StaysOrEnters, move_kinds}
 use Rattle.rv_hub.specs.dispatcher.View.{DispatcherState, DispatcherTerms}

@@ -18,10 +18,10 @@ use Rattle.rv_account.specs.declared.entry.Act.TheVariants.{Arrive}
 use Rattle.rv_account.specs.declared.entry.Entry.{Entry}
 use Rattle.rv_account.specs.Account.{Account, act_at, own_moment}
 use Rattle.rv_account.specs.Limits.{max_moment}
-use Rattle.rv_rules.specs.StepLimits.{AreStepLimits, StepLimits}
-use Rattle.rv_rules.specs.Steps.{NextUnder}
-use Rattle.rv_rules.proofs.Growing.{act_read, reads_on}
-use Rattle.rv_rules.proofs.Places.{get-append_cases, get-append_end, within}
+use Rattle.rv_account.specs.rules.StepLimits.{AreStepLimits, StepLimits}
+use Rattle.rv_account.specs.rules.Steps.{NextUnder}
+use Rattle.rv_account.proofs.OfRules.Growing.{act_read, reads_on}
+use Rattle.rv_account.proofs.OfRules.Places.{get-append_cases, get-append_end, within}
 use Rattle.rv_server_connections.specs.connection.Traffic.{Traffic}
 use Rattle.rv_server_connections.specs.connection.History.{Given, owed_count}
 use Rattle.rv_server_connections.specs.declared.subscribers.tables.Subscription.{Subscription}

@@ -15,16 +15,17 @@ use Rattle.rv_session.specs.declared.client.LastRequest.TheVariants.{CancelledUn
 use Rattle.rv_account.specs.declared.entry.Act.TheVariants.{Arrive}
 use Rattle.rv_account.specs.declared.entry.Entry.{Entry}
 use Rattle.rv_account.specs.Account.{Account, act_at, call_in}
-use Rattle.rv_rules.specs.Legal.{Legal}
-use Rattle.rv_rules.specs.StepLimits.{StepLimits}
-use Rattle.rv_rules.specs.Steps.{NextUnder}
-use Rattle.rv_rules.proofs.OnePartner.{arrives_once}
-use Rattle.rv_state.specs.Agreement.{BecameOf}
-use Rattle.rv_state.specs.Moves.{CallDiffers, IncarnationOld, NumberOld}
-use Rattle.rv_state.specs.Moves.{SessionLacks, StateNextAtUnder, answer_told, call_asked, staying, told_again}
-use Rattle.rv_state.specs.State.{ClientState, State, client_at}
-use Rattle.rv_state.proofs.StateLaws.{moves_step_under}
-use Rattle.rv_state.specs.Moves.{StateNextUnder}
+use Rattle.rv_account.specs.rules.Legal.{Legal}
+use Rattle.rv_account.specs.rules.StepLimits.{StepLimits}
+use Rattle.rv_account.specs.rules.Steps.{NextUnder}
+use Rattle.rv_account.proofs.OfRules.OnePartner.{arrives_once}
+use Rattle.rv_account.specs.state.Agreement.{BecameOf}
+use Rattle.rv_account.specs.state.Moves.{CallDiffers, IncarnationOld, NumberOld}
+use Rattle.rv_account.specs.state.Moves.{SessionLacks, StateNextAtUnder, answer_told, call_asked, staying}
+use Rattle.rv_account.specs.state.Moves.{told_again}
+use Rattle.rv_account.specs.state.State.{ClientState, State, client_at}
+use Rattle.rv_account.proofs.OfState.StateLaws.{moves_step_under}
+use Rattle.rv_account.specs.state.Moves.{StateNextUnder}
 use Rattle.rv_hub.specs.dispatcher.View.{DispatcherState}
 use Rattle.rv_hub.specs.dispatcher.Telling.{IsToldAgain}
 use Rattle.rv_hub.specs.HubRuns.{IsHubAccount, TellsAsARepeat}

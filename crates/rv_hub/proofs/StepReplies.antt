@@ -15,15 +15,16 @@ use Rattle.rv_account.specs.declared.entry.Act.{Act}
 use Rattle.rv_account.specs.declared.entry.Act.TheVariants as act
 use Rattle.rv_account.specs.declared.entry.Entry.{Entry}
 use Rattle.rv_account.specs.Account.{Account, call_in, just, with_entry}
-use Rattle.rv_rules.specs.Legal.{Legal, WaitsUnder}
-use Rattle.rv_rules.specs.Replies.{HasReply}
-use Rattle.rv_rules.specs.StepLimits.{StepLimits}
-use Rattle.rv_rules.specs.Steps.{Adds, Answers, EntersOrNoMemory, KeyLines, NextAtUnder, NextUnder, PlaceLine}
-use Rattle.rv_rules.specs.Steps.{RefuseOr, Refuses, Replies}
-use Rattle.rv_rules.proofs.Legality.{follows_itself}
-use Rattle.rv_rules.proofs.Lines.{RefuseOr-elim, WhereElse-elim}
-use Rattle.rv_rules.proofs.Naming.{first_among}
-use Rattle.rv_state.proofs.ToldCancelled.{waiting_replies}
+use Rattle.rv_account.specs.rules.Legal.{Legal, WaitsUnder}
+use Rattle.rv_account.specs.rules.Replies.{HasReply}
+use Rattle.rv_account.specs.rules.StepLimits.{StepLimits}
+use Rattle.rv_account.specs.rules.Steps.{Adds, Answers, EntersOrNoMemory, KeyLines, NextAtUnder, NextUnder}
+use Rattle.rv_account.specs.rules.Steps.{PlaceLine}
+use Rattle.rv_account.specs.rules.Steps.{RefuseOr, Refuses, Replies}
+use Rattle.rv_account.proofs.OfRules.Legality.{follows_itself}
+use Rattle.rv_account.proofs.OfRules.Lines.{RefuseOr-elim, WhereElse-elim}
+use Rattle.rv_account.proofs.OfRules.Naming.{first_among}
+use Rattle.rv_account.proofs.OfState.ToldCancelled.{waiting_replies}
 
 -- ---- the cancel of a request that waits
 

@@ -9,8 +9,8 @@ use Rattle.rv_text.specs.Limits.{FitsAnswer}
 use Rattle.rv_account.specs.declared.entry.Entry.{Entry}
 use Rattle.rv_account.specs.Account.{Account}
 use Rattle.rv_account.specs.Limits.{max_moment}
-use Rattle.rv_rules.specs.Replies.{HasReply}
-use Rattle.rv_rules.specs.StepLimits.{AreStepLimits}
+use Rattle.rv_account.specs.rules.Replies.{HasReply}
+use Rattle.rv_account.specs.rules.StepLimits.{AreStepLimits}
 use Rattle.rv_server_connections.specs.connection.History.{Given}
 use Rattle.rv_hub.specs.dispatcher.View.{DispatcherState, DispatcherTerms}
 use Rattle.rv_hub.specs.dispatcher.Effects.{Effect, DoesAll, entries_of_effect}

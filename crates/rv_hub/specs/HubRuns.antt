@@ -10,11 +10,11 @@ use Rattle.rv_account.specs.declared.entry.Entry.{Entry}
 use Rattle.rv_account.specs.declared.entry.Act.TheVariants.{Arrive}
 use Rattle.rv_account.specs.Account.{Account, act_at}
 use Rattle.rv_account.specs.Limits.{max_moment}
-use Rattle.rv_rules.specs.Legal.{Legal}
-use Rattle.rv_rules.specs.StepLimits.{AreStepLimits}
-use Rattle.rv_rules.specs.Steps.{Answers, NextUnder, OldIncarnationDue}
-use Rattle.rv_state.specs.After.{due_at, state_of}
-use Rattle.rv_state.specs.resume.Resuming.{CanResume}
+use Rattle.rv_account.specs.rules.Legal.{Legal}
+use Rattle.rv_account.specs.rules.StepLimits.{AreStepLimits}
+use Rattle.rv_account.specs.rules.Steps.{Answers, NextUnder, OldIncarnationDue}
+use Rattle.rv_account.specs.state.After.{due_at, state_of}
+use Rattle.rv_account.specs.state.resume.Resuming.{CanResume}
 use Rattle.rv_hub.specs.dispatcher.View.{DispatcherState, DispatcherTerms, begun}
 use Rattle.rv_hub.specs.dispatcher.Effects.{Asked, Effect, Does, DoesAll, Stepped, Told, entries_of_effect}
 use Rattle.rv_hub.specs.dispatcher.Runs.{RunsBook}

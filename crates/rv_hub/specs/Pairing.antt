@@ -13,8 +13,8 @@ use Rattle.rv_account.specs.declared.entry.Act.TheVariants.{Arrive}
 use Rattle.rv_account.specs.declared.entry.Entry.{Entry}
 use Rattle.rv_account.specs.Account.{Account, act_at, own_moment}
 use Rattle.rv_account.specs.Limits.{max_moment}
-use Rattle.rv_rules.specs.StepLimits.{AreStepLimits, StepLimits}
-use Rattle.rv_rules.specs.Steps.{NextUnder}
+use Rattle.rv_account.specs.rules.StepLimits.{AreStepLimits, StepLimits}
+use Rattle.rv_account.specs.rules.Steps.{NextUnder}
 use Rattle.rv_server_connections.specs.connection.History.{Given}
 use Rattle.rv_server_connections.specs.declared.subscribers.tables.Subscription.{Subscription}
 use Rattle.rv_server_connections.specs.Connections.{HasWire}

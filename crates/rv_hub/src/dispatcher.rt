@@ -2,9 +2,9 @@
 //! goes on until it stops, and after each step all connections that it settled are told.
 ghost use Rattle.std.specs.Prelude.{◌≡◌, ◌+◌, ◌≤◌, ◌↔◌, [], ℕ, None, Some, true, false, length, max};
 ghost use Rattle.std.specs.Prelude.{option_map, IfErr, IfNone, IfOk, IfSome, IsSome, IsTrue, OnErr, OnOk};
-ghost use Rattle.rv_rules.specs.StepLimits.{AreStepLimits};
+ghost use Rattle.rv_account.specs.rules.StepLimits.{AreStepLimits};
 ghost use Rattle.rv_machine.specs.Machines.{state_in};
-ghost use Rattle.rv_state.specs.resume.Resuming.{CanResume};
+ghost use Rattle.rv_account.specs.state.resume.Resuming.{CanResume};
 ghost use Rattle.rv_server_connections.specs.connection.Steps.{input_ended, left_by};
 ghost use Rattle.rv_server_connections.specs.Connections.{AllHeldBack, HasWire, none_open};
 ghost use Rattle.rv_server_connections.specs.Wires.{wires_in};
@@ -25,8 +25,8 @@ mod time;
 mod turns;
 
 use rv_account::Entry;
+use rv_account::rules::Limits;
 use rv_machine::Machine;
-use rv_rules::Limits;
 use rv_server_connections::Wires;
 use rv_server_connections::connection::Wire;
 use rv_server_connections::subscribers::{ConnectionNumber, Subscribers};

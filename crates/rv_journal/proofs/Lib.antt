@@ -22,3 +22,4 @@ mod Beginning
 mod FailingDevices
 mod Unchanged
 mod Systems
+pub mod OfFolders

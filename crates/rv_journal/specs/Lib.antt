@@ -10,3 +10,4 @@ pub mod Opened
 pub mod Read
 pub mod System
 pub mod Text
+pub mod folders

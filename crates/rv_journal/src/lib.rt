@@ -12,6 +12,7 @@ mod cutter;
 mod device;
 mod fault;
 mod filled;
+pub mod folders;
 mod journal;
 pub mod laws;
 mod opening;

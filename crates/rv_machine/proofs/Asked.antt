@@ -12,9 +12,10 @@ use Rattle.rv_session.specs.declared.client.ClientState.{ClientState}
 use Rattle.rv_session.specs.declared.client.LastRequest.{LastRequest}
 use Rattle.rv_session.specs.declared.client.LastRequest.TheVariants.{RepliedTo, Waits}
 use Rattle.rv_session.specs.Clients.{clients_asked, clients_told, insert_known, with_last_number}
-use Rattle.rv_state.specs.State.{OpenPlace, State, client_at}
-use Rattle.rv_state.specs.After.{Following, Settled, arrived, asked, closed, met_by, parked, request_after}
-use Rattle.rv_state.specs.After.{settled_all, told_own, told_partner, with_last, with_open}
+use Rattle.rv_account.specs.state.State.{OpenPlace, State, client_at}
+use Rattle.rv_account.specs.state.After.{Following, Settled, arrived, asked, closed, met_by, parked}
+use Rattle.rv_account.specs.state.After.{request_after}
+use Rattle.rv_account.specs.state.After.{settled_all, told_own, told_partner, with_last, with_open}
 use Rattle.rv_machine.proofs.Told.{asked_other, asked_own, told_other, told_own as told_own_client}
 
 -- the state with other clients

@@ -3,11 +3,11 @@ use Rattle.std.proofs.Common.{◌≡◌, ◌≤◌, ◌∙◌, ℕ, [], Some, sy
 use Rattle.std.specs.FinMap.{FinMap, empty, get, get-empty}
 use Rattle.std.specs.Ordering.{nat_cmp}
 use Rattle.std.specs.Prelude.{vec_len}
-use Rattle.rv_rules.specs.Steps.{max_moment}
-use Rattle.rv_state.specs.State.{ClientState, OpenPlace, client_at}
-use Rattle.rv_state.proofs.Words.{none-some}
+use Rattle.rv_account.specs.rules.Steps.{max_moment}
+use Rattle.rv_account.specs.state.State.{ClientState, OpenPlace, client_at}
+use Rattle.rv_account.proofs.OfState.Words.{none-some}
 use Rattle.rv_machine.specs.declared.tables.Holdings.{Holdings}
-use Rattle.rv_rules.specs.Reach.{most_known}
+use Rattle.rv_account.specs.rules.Reach.{most_known}
 use Rattle.rv_machine.specs.Machines.{IsWhole, state_in}
 use Rattle.rv_machine.specs.Numbering.{AreNumbered}
 use Rattle.rv_machine.specs.open_places.OpenMap.{count_waiting}

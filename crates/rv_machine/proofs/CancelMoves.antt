@@ -12,17 +12,17 @@ use Rattle.rv_text.specs.declared.answer.Reply.TheVariants.{Cancelled}
 use Rattle.rv_account.specs.Account.{entry}
 use Rattle.rv_account.specs.declared.entry.Act.{Act}
 use Rattle.rv_account.specs.declared.entry.Act.TheVariants as act
-use Rattle.rv_rules.specs.StepLimits.{StepLimits}
+use Rattle.rv_account.specs.rules.StepLimits.{StepLimits}
 use Rattle.rv_session.specs.declared.client.LastRequest.{LastRequest}
 use Rattle.rv_session.specs.declared.client.LastRequest.TheVariants.{CancelledUnseen, Fresh, Waits}
 use Rattle.rv_session.specs.ClientMeanings.{AsksLast, AsksNext, RefusalSays}
 use Rattle.rv_session.specs.Clients.{ClientStates, answered, clients_asked, insert_known, place_waiting}
 use Rattle.rv_session.specs.Clients.{with_clients, with_last_number, with_request}
-use Rattle.rv_state.specs.State.{ClientState, OpenPlace, State, client_at, client_waits}
-use Rattle.rv_state.specs.After.{advanced, cancelled, with_client, with_last}
-use Rattle.rv_state.specs.Follows.{NumberWaits}
-use Rattle.rv_state.specs.Moves.{answer_after, answer_told, entering, told_again}
-use Rattle.rv_state.proofs.Words.{none-some, same_Some}
+use Rattle.rv_account.specs.state.State.{ClientState, OpenPlace, State, client_at, client_waits}
+use Rattle.rv_account.specs.state.After.{advanced, cancelled, with_client, with_last}
+use Rattle.rv_account.specs.state.Follows.{NumberWaits}
+use Rattle.rv_account.specs.state.Moves.{answer_after, answer_told, entering, told_again}
+use Rattle.rv_account.proofs.OfState.Words.{none-some, same_Some}
 use Rattle.rv_machine.specs.declared.tables.Holdings.{Holdings}
 use Rattle.rv_machine.specs.declared.machine.Said.TheVariants as said
 use Rattle.rv_machine.specs.Ending.{EndsWaiting, counted}
@@ -35,7 +35,7 @@ use Rattle.rv_machine.proofs.KeyLines.{awaited_there, key_last, key_next, key_re
 use Rattle.rv_machine.proofs.SpaceLines.{has_space, lacks_space}
 use Rattle.rv_machine.proofs.Staying.{moves_refused, moves_staying}
 use Rattle.rv_machine.proofs.Stopping.{settled_one, stopped_one}
-use Rattle.rv_state.proofs.Resumed.Sessions.{put_own}
+use Rattle.rv_account.proofs.OfState.Resumed.Sessions.{put_own}
 
 -- ---- where no entry is made
 

@@ -9,13 +9,13 @@ use Rattle.rv_session.specs.declared.client.LastRequest.{LastRequest}
 use Rattle.rv_session.specs.declared.client.LastRequest.TheVariants.{Waits}
 use Rattle.rv_session.specs.Clients.{ClientStates, clients_asked, insert_known, place_awaited, place_waiting}
 use Rattle.rv_session.specs.Clients.{with_clients, with_last_number}
-use Rattle.rv_state.specs.State.{ClientState, OpenPlace, State, Waiter, client_at}
-use Rattle.rv_state.specs.After.{asked, with_client, with_last}
-use Rattle.rv_state.specs.Follows.{NumberIsNext}
-use Rattle.rv_state.proofs.Words.{none-some, same_Some}
+use Rattle.rv_account.specs.state.State.{ClientState, OpenPlace, State, Waiter, client_at}
+use Rattle.rv_account.specs.state.After.{asked, with_client, with_last}
+use Rattle.rv_account.specs.state.Follows.{NumberIsNext}
+use Rattle.rv_account.proofs.OfState.Words.{none-some, same_Some}
 use Rattle.rv_machine.specs.declared.tables.Holdings.{Holdings}
 use Rattle.rv_machine.specs.Machines.{IsConsistent, IsWhole, IsWaiter, AwaitsPlace, state_in}
-use Rattle.rv_state.proofs.Resumed.Sessions.{put_other, put_own}
+use Rattle.rv_account.proofs.OfState.Resumed.Sessions.{put_other, put_own}
 
 -- where the request of a session waits, by the session
 abbrev pub awaited_by : Option ClientState → Option ℕ

@@ -7,16 +7,17 @@ use Rattle.rv_text.specs.declared.version.Version.{Version}
 use Rattle.rv_text.specs.declared.answer.Refusal.{Refusal}
 use Rattle.rv_text.specs.declared.answer.Refusal.TheVariants.{EpochFull}
 use Rattle.rv_account.specs.Calls.{need_of}
-use Rattle.rv_rules.specs.StepLimits.{StepLimits}
-use Rattle.rv_rules.specs.Steps.{RefuseOr, WhereElse}
-use Rattle.rv_state.specs.Follows.{NumberWaits}
-use Rattle.rv_state.specs.Moves.{CallDiffers, EpochDiffers, HasSessionOf, IncarnationOld, NoClientMoreUnder}
-use Rattle.rv_state.specs.Moves.{NoEntryMoreUnder, NumberAbove, NumberIsLast, NumberOld, SessionBusy}
-use Rattle.rv_state.specs.Moves.{SessionLacks}
-use Rattle.rv_state.specs.Moves.{StateCancelLinesUnder, StateHelloLinesUnder, StateKeyLines}
-use Rattle.rv_state.specs.Moves.{StatePlaceLine, StateRequestLinesUnder}
-use Rattle.rv_state.specs.Moves.{VersionDiffers}
-use Rattle.rv_state.specs.State.{State}
+use Rattle.rv_account.specs.rules.StepLimits.{StepLimits}
+use Rattle.rv_account.specs.rules.Steps.{RefuseOr, WhereElse}
+use Rattle.rv_account.specs.state.Follows.{NumberWaits}
+use Rattle.rv_account.specs.state.Moves.{CallDiffers, EpochDiffers, HasSessionOf, IncarnationOld}
+use Rattle.rv_account.specs.state.Moves.{NoClientMoreUnder}
+use Rattle.rv_account.specs.state.Moves.{NoEntryMoreUnder, NumberAbove, NumberIsLast, NumberOld, SessionBusy}
+use Rattle.rv_account.specs.state.Moves.{SessionLacks}
+use Rattle.rv_account.specs.state.Moves.{StateCancelLinesUnder, StateHelloLinesUnder, StateKeyLines}
+use Rattle.rv_account.specs.state.Moves.{StatePlaceLine, StateRequestLinesUnder}
+use Rattle.rv_account.specs.state.Moves.{VersionDiffers}
+use Rattle.rv_account.specs.state.State.{State}
 use Rattle.rv_machine.specs.Limiting.{LacksPlace}
 
 -- the epoch has space for so many entries more

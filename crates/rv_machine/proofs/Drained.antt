@@ -18,17 +18,19 @@ use Rattle.rv_session.specs.declared.client.LastRequest.TheVariants.{Fresh, Wait
 use Rattle.rv_session.specs.Clients.{place_waiting, with_last_number}
 use Rattle.rv_account.specs.declared.entry.Act.TheVariants.{Arrive}
 use Rattle.rv_account.specs.Account.{entry}
-use Rattle.rv_state.specs.State.{ClientState, OpenPlace, State, Waiter, call_waiting, client_at, line}
-use Rattle.rv_state.specs.State.{place_list}
-use Rattle.rv_state.specs.State.{same_side}
-use Rattle.rv_state.specs.After.{Following, Settled, advanced, answered, arrived, asked, closed, parked}
-use Rattle.rv_state.specs.After.{request_after, settled_all, settled_at, told_met, told_own, told_partner}
-use Rattle.rv_state.specs.After.{with_open, with_request}
-use Rattle.rv_state.specs.Follows.{NumberIsNext}
-use Rattle.rv_state.proofs.Words.{none-some, same_Some}
-use Rattle.rv_state.proofs.Filtered.{filter_get, take_get}
-use Rattle.rv_state.proofs.SideLines.{same_side_is}
-use Rattle.rv_state.proofs.ToldClients.{get_tell_all, told_client, told_still}
+use Rattle.rv_account.specs.state.State.{ClientState, OpenPlace, State, Waiter, call_waiting, client_at, line}
+use Rattle.rv_account.specs.state.State.{place_list}
+use Rattle.rv_account.specs.state.State.{same_side}
+use Rattle.rv_account.specs.state.After.{Following, Settled, advanced, answered, arrived, asked, closed}
+use Rattle.rv_account.specs.state.After.{parked}
+use Rattle.rv_account.specs.state.After.{request_after, settled_all, settled_at, told_met, told_own}
+use Rattle.rv_account.specs.state.After.{told_partner}
+use Rattle.rv_account.specs.state.After.{with_open, with_request}
+use Rattle.rv_account.specs.state.Follows.{NumberIsNext}
+use Rattle.rv_account.proofs.OfState.Words.{none-some, same_Some}
+use Rattle.rv_account.proofs.OfState.Filtered.{filter_get, take_get}
+use Rattle.rv_account.proofs.OfState.SideLines.{same_side_is}
+use Rattle.rv_account.proofs.OfState.ToldClients.{get_tell_all, told_client, told_still}
 use Rattle.rv_machine.specs.declared.tables.Holdings.{Holdings}
 use Rattle.rv_machine.specs.Arriving.{Arrives}
 use Rattle.rv_machine.specs.Ending.{counted}

@@ -10,9 +10,10 @@ use Rattle.rv_session.specs.declared.client.LastRequest.{LastRequest}
 use Rattle.rv_session.specs.declared.client.LastRequest.TheVariants.{Fresh, Waits, RepliedTo, CancelledUnseen}
 use Rattle.rv_session.specs.Clients.{answered, clients_told, place_waiting, with_request}
 use Rattle.rv_machine.specs.open_places.OpenMap.{most_counted}
-use Rattle.rv_state.specs.State.{ClientState, OpenPlace, State, Waiter, client_at, client_waits, open_at}
-use Rattle.rv_state.proofs.TableClients.{clients_after_tell}
-use Rattle.rv_state.proofs.Words.{none-some, same_Some}
+use Rattle.rv_account.specs.state.State.{ClientState, OpenPlace, State, Waiter, client_at, client_waits}
+use Rattle.rv_account.specs.state.State.{open_at}
+use Rattle.rv_account.proofs.OfState.TableClients.{clients_after_tell}
+use Rattle.rv_account.proofs.OfState.Words.{none-some, same_Some}
 use Rattle.rv_machine.specs.declared.tables.Holdings.{Holdings}
 use Rattle.rv_machine.specs.Ending.{EndsWaiting}
 use Rattle.rv_machine.specs.Entering.{WaitsForNothing}

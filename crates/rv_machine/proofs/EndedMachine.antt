@@ -7,9 +7,9 @@ use Rattle.rv_text.specs.declared.message.Key.{Key}
 use Rattle.rv_text.specs.declared.answer.Reply.{Reply}
 use Rattle.rv_session.specs.OwedDuty.{OwedDuty}
 use Rattle.rv_session.specs.Clients.{ClientStates, clients_told, place_awaited, with_clients}
-use Rattle.rv_state.specs.State.{OpenPlace, State, Waiter}
-use Rattle.rv_state.specs.After.{closed}
-use Rattle.rv_state.proofs.Words.{same_Some}
+use Rattle.rv_account.specs.state.State.{OpenPlace, State, Waiter}
+use Rattle.rv_account.specs.state.After.{closed}
+use Rattle.rv_account.proofs.OfState.Words.{same_Some}
 use Rattle.rv_machine.specs.declared.tables.Holdings.{Holdings}
 use Rattle.rv_machine.specs.Ending.{EndsWaiting}
 use Rattle.rv_machine.specs.open_places.Indexed.{ClosesPlace}

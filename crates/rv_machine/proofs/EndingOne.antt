@@ -11,11 +11,11 @@ use Rattle.rv_text.specs.declared.answer.Reply.{Reply}
 use Rattle.rv_session.specs.declared.client.LastRequest.{LastRequest}
 use Rattle.rv_session.specs.declared.client.LastRequest.TheVariants.{RepliedTo, Waits}
 use Rattle.rv_session.specs.Clients.{clients_told, place_awaited, place_waiting}
-use Rattle.rv_state.specs.State.{ClientState, OpenPlace, State, Waiter, client_at}
-use Rattle.rv_state.specs.After.{answered, but, closed, with_request}
-use Rattle.rv_state.proofs.TableClients.{clients_after_tell}
-use Rattle.rv_state.proofs.Words.{same_Some}
-use Rattle.rv_state.proofs.Filtered.{filter_get, find_get, rises_left}
+use Rattle.rv_account.specs.state.State.{ClientState, OpenPlace, State, Waiter, client_at}
+use Rattle.rv_account.specs.state.After.{answered, but, closed, with_request}
+use Rattle.rv_account.proofs.OfState.TableClients.{clients_after_tell}
+use Rattle.rv_account.proofs.OfState.Words.{same_Some}
+use Rattle.rv_account.proofs.OfState.Filtered.{filter_get, find_get, rises_left}
 use Rattle.rv_machine.specs.open_places.OpenMap.{PlacesRise, found_at, count_waiting, all_but}
 use Rattle.rv_machine.specs.Machines.{IsConsistent, IsWaiter, AwaitsPlace}
 use Rattle.rv_machine.proofs.OfOpenPlaces.Closing.{found_apart}

@@ -1,10 +1,10 @@
 -- A state without an item that lay there.
 use Rattle.std.proofs.Common.{◌≡◌, ◌≢◌, ◌≤◌, ◌∷◌, ◌∙◌, ℕ, List, [], not, Some, None}
 use Rattle.std.proofs.Common.{sym, ap, subst, arith, slice_get, nat_eq}
-use Rattle.rv_state.specs.State.{OpenPlace, State, Waiter}
-use Rattle.rv_state.specs.After.{closed}
-use Rattle.rv_state.proofs.Words.{none-some, same_Some}
-use Rattle.rv_state.proofs.Filtered.{filter_get, rises_left}
+use Rattle.rv_account.specs.state.State.{OpenPlace, State, Waiter}
+use Rattle.rv_account.specs.state.After.{closed}
+use Rattle.rv_account.proofs.OfState.Words.{none-some, same_Some}
+use Rattle.rv_account.proofs.OfState.Filtered.{filter_get, rises_left}
 use Rattle.rv_machine.specs.open_places.OpenMap.{PlacesRise, found_at, count_waiting, all_but}
 use Rattle.rv_machine.specs.Machines.{IsConsistent, IsWaiter, AwaitsPlace}
 use Rattle.rv_machine.proofs.OfOpenPlaces.Closing.{found_apart}

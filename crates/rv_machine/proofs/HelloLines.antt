@@ -6,14 +6,14 @@ use Rattle.rv_text.specs.declared.version.Version.{Version}
 use Rattle.rv_text.specs.declared.answer.Refusal.{Refusal}
 use Rattle.rv_text.specs.declared.answer.Refusal.TheVariants.{ClientsFull, EpochFull, OldIncarnation}
 use Rattle.rv_text.specs.declared.answer.Refusal.TheVariants.{OtherVersion}
-use Rattle.rv_rules.specs.StepLimits.{StepLimits}
-use Rattle.rv_rules.specs.Steps.{RefuseOr}
-use Rattle.rv_state.specs.Follows.{IsNewIncarnation}
-use Rattle.rv_state.specs.Moves.{HasSessionOf, IncarnationOld, NoClientMoreUnder, NoEntryMoreUnder}
-use Rattle.rv_state.specs.Moves.{StateHelloLinesUnder}
-use Rattle.rv_state.specs.Moves.{VersionDiffers}
-use Rattle.rv_state.specs.State.{ClientState, State, client_at, waiting_count}
-use Rattle.rv_state.proofs.Words.{none-some, same_Some}
+use Rattle.rv_account.specs.rules.StepLimits.{StepLimits}
+use Rattle.rv_account.specs.rules.Steps.{RefuseOr}
+use Rattle.rv_account.specs.state.Follows.{IsNewIncarnation}
+use Rattle.rv_account.specs.state.Moves.{HasSessionOf, IncarnationOld, NoClientMoreUnder, NoEntryMoreUnder}
+use Rattle.rv_account.specs.state.Moves.{StateHelloLinesUnder}
+use Rattle.rv_account.specs.state.Moves.{VersionDiffers}
+use Rattle.rv_account.specs.state.State.{ClientState, State, client_at, waiting_count}
+use Rattle.rv_account.proofs.OfState.Words.{none-some, same_Some}
 use Rattle.rv_machine.specs.Entering.{IsNewHello}
 use Rattle.rv_machine.proofs.SpaceLines.{has_space, lacks_space}
 

@@ -15,15 +15,15 @@ use Rattle.rv_account.specs.declared.entry.Entry.{Entry}
 use Rattle.rv_account.specs.declared.entry.Act.TheVariants as act
 use Rattle.rv_session.specs.ClientMeanings.{HasGreaterState, HasLowerState, HasOtherState, HasState}
 use Rattle.rv_session.specs.Clients.{fresh_state}
-use Rattle.rv_state.specs.State.{ClientState, OpenPlace, State, Waiter, client_waits}
-use Rattle.rv_rules.specs.StepLimits.{StepLimits}
+use Rattle.rv_account.specs.state.State.{ClientState, OpenPlace, State, Waiter, client_waits}
+use Rattle.rv_account.specs.rules.StepLimits.{StepLimits}
 use Rattle.std.specs.Global.{Vec}
 use Rattle.rv_text.specs.declared.message.Key.{Key}
 use Rattle.rv_account.specs.declared.entry.Act.{Act}
-use Rattle.rv_state.specs.After.{advanced, closed, following, greeted, just_open, stopped}
-use Rattle.rv_state.specs.After.{with_client}
-use Rattle.rv_state.specs.Moves.{entering}
-use Rattle.rv_state.proofs.Words.{none-some, same_Some}
+use Rattle.rv_account.specs.state.After.{advanced, closed, following, greeted, just_open, stopped}
+use Rattle.rv_account.specs.state.After.{with_client}
+use Rattle.rv_account.specs.state.Moves.{entering}
+use Rattle.rv_account.proofs.OfState.Words.{none-some, same_Some}
 use Rattle.rv_machine.specs.declared.tables.Holdings.{Holdings}
 use Rattle.rv_machine.specs.declared.machine.Said.TheVariants as said
 use Rattle.rv_machine.specs.Ending.{EndsWaiting}

@@ -5,13 +5,13 @@ use Rattle.std.specs.FinMap.{insert}
 use Rattle.rv_text.specs.declared.call.Call.{Call}
 use Rattle.rv_session.specs.declared.client.LastRequest.TheVariants.{Waits}
 use Rattle.rv_session.specs.Clients.{ClientStates, place_waiting}
-use Rattle.rv_state.specs.State.{ClientState, OpenPlace, State, Waiter, client_at}
-use Rattle.rv_state.specs.After.{with_client}
-use Rattle.rv_state.proofs.Words.{none-some, same_Some}
+use Rattle.rv_account.specs.state.State.{ClientState, OpenPlace, State, Waiter, client_at}
+use Rattle.rv_account.specs.state.After.{with_client}
+use Rattle.rv_account.proofs.OfState.Words.{none-some, same_Some}
 use Rattle.rv_machine.specs.declared.tables.Holdings.{Holdings}
 use Rattle.rv_machine.specs.Entering.{WaitsForNothing}
 use Rattle.rv_machine.specs.Machines.{IsConsistent, IsWhole, IsWaiter, AwaitsPlace, state_in}
-use Rattle.rv_state.proofs.Resumed.Sessions.{put_other, put_own}
+use Rattle.rv_account.proofs.OfState.Resumed.Sessions.{put_other, put_own}
 
 module _ (s : State) (is : IsConsistent s) (client : ℕ) (idle : WaitsForNothing s client) (session :
     ClientState)

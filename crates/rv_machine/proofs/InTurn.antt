@@ -5,9 +5,9 @@ use Rattle.rv_text.specs.declared.message.Key.{Key}
 use Rattle.rv_text.specs.declared.answer.Reply.TheVariants.{TimedOut}
 use Rattle.rv_account.specs.Account.{entry}
 use Rattle.rv_account.specs.declared.entry.Act.TheVariants.{Tick}
-use Rattle.rv_state.specs.State.{OpenPlace, State}
-use Rattle.rv_state.specs.After.{Settled, advanced, due_at, stopped}
-use Rattle.rv_state.specs.Moves.{Ticked, ticked_at, ticked_if, ticking}
+use Rattle.rv_account.specs.state.State.{OpenPlace, State}
+use Rattle.rv_account.specs.state.After.{Settled, advanced, due_at, stopped}
+use Rattle.rv_account.specs.state.Moves.{Ticked, ticked_at, ticked_if, ticking}
 use Rattle.rv_machine.specs.declared.tables.Holdings.{Holdings}
 use Rattle.rv_machine.specs.Ending.{counted}
 use Rattle.rv_machine.specs.Machines.{keys_settled, state_in}

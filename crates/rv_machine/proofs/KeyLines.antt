@@ -13,11 +13,11 @@ use Rattle.rv_session.specs.declared.client.LastRequest.TheVariants.{Fresh}
 use Rattle.rv_session.specs.Clients.{ClientStates, place_awaited, place_waiting}
 use Rattle.rv_session.specs.ClientMeanings.{AsksLast, AsksNext, AsksOldNumber}
 use Rattle.rv_session.specs.ClientMeanings.{LacksState, RefusalSays}
-use Rattle.rv_state.specs.State.{ClientState, State, client_at}
-use Rattle.rv_state.specs.Moves.{EpochDiffers, IncarnationOld, NumberAbove, NumberIsLast, NumberOld}
-use Rattle.rv_state.specs.Moves.{SessionBusy, SessionLacks, StateKeyLines}
-use Rattle.rv_state.specs.Follows.{IsNewIncarnation, NumberIsNext}
-use Rattle.rv_state.proofs.Words.{none-some, same_Some}
+use Rattle.rv_account.specs.state.State.{ClientState, State, client_at}
+use Rattle.rv_account.specs.state.Moves.{EpochDiffers, IncarnationOld, NumberAbove, NumberIsLast, NumberOld}
+use Rattle.rv_account.specs.state.Moves.{SessionBusy, SessionLacks, StateKeyLines}
+use Rattle.rv_account.specs.state.Follows.{IsNewIncarnation, NumberIsNext}
+use Rattle.rv_account.proofs.OfState.Words.{none-some, same_Some}
 use Rattle.rv_machine.specs.Numbering.{AreNumbered}
 use Rattle.rv_machine.specs.Machines.{state_in}
 use Rattle.rv_machine.specs.declared.tables.Holdings.{Holdings}

@@ -19,11 +19,13 @@ use Rattle.rv_account.specs.declared.entry.Act.TheVariants.{Arrive}
 use Rattle.rv_account.specs.Account.{entry}
 use Rattle.rv_account.specs.Calls.{Lasts, may_name, opposite}
 use Rattle.rv_model_queues.specs.Meeting.{StaysBy}
-use Rattle.rv_state.specs.State.{OpenPlace, State, opposites, place_list}
-use Rattle.rv_state.specs.After.{Following, Settled, advanced, arrived, asked, closed, lasts_by, met_by}
-use Rattle.rv_state.specs.After.{opened_by, parked, request_after, settled_all, stays_open, told_alone}
-use Rattle.rv_state.specs.After.{told_own}
-use Rattle.rv_state.specs.After.{told_partner, with_open}
+use Rattle.rv_account.specs.state.State.{OpenPlace, State, opposites, place_list}
+use Rattle.rv_account.specs.state.After.{Following, Settled, advanced, arrived, asked, closed, lasts_by}
+use Rattle.rv_account.specs.state.After.{met_by}
+use Rattle.rv_account.specs.state.After.{opened_by, parked, request_after, settled_all, stays_open}
+use Rattle.rv_account.specs.state.After.{told_alone}
+use Rattle.rv_account.specs.state.After.{told_own}
+use Rattle.rv_account.specs.state.After.{told_partner, with_open}
 use Rattle.rv_machine.specs.declared.tables.Holdings.{Holdings}
 use Rattle.rv_machine.specs.Arriving.{Arrives, MayArrive}
 use Rattle.rv_machine.specs.Ending.{counted}

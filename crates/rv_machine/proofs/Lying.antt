@@ -4,9 +4,9 @@ use Rattle.rv_text.specs.declared.call.Call.{Call}
 use Rattle.rv_text.specs.declared.call.Call.TheVariants as call
 use Rattle.rv_text.specs.declared.call.Side.TheVariants.{Gives, Takes, Looks, Exchanges}
 use Rattle.rv_text.specs.Calls.{item_of, side_of}
-use Rattle.rv_state.specs.State.{OpenPlace, State, Waiter, same_side}
-use Rattle.rv_state.proofs.Filtered.{filter_get}
-use Rattle.rv_state.proofs.SideLines.{same_side_is}
+use Rattle.rv_account.specs.state.State.{OpenPlace, State, Waiter, same_side}
+use Rattle.rv_account.proofs.OfState.Filtered.{filter_get}
+use Rattle.rv_account.proofs.OfState.SideLines.{same_side_is}
 use Rattle.rv_machine.specs.Machines.{IsConsistent}
 use Rattle.rv_machine.specs.open_places.OpenMap.{line_in}
 

@@ -18,10 +18,11 @@ use Rattle.rv_session.specs.Clients.{with_last_number}
 use Rattle.rv_account.specs.declared.entry.Act.TheVariants.{Arrive}
 use Rattle.rv_account.specs.Account.{entry}
 use Rattle.rv_account.specs.Calls.{may_name, need_by, opposite}
-use Rattle.rv_state.specs.State.{OpenPlace, State, place_list}
-use Rattle.rv_state.specs.After.{Following, Settled, advanced, asked, closed, following, met_by, parked}
-use Rattle.rv_state.specs.After.{request_after}
-use Rattle.rv_state.specs.After.{settled_all, told_own, told_partner, with_open}
+use Rattle.rv_account.specs.state.State.{OpenPlace, State, place_list}
+use Rattle.rv_account.specs.state.After.{Following, Settled, advanced, asked, closed, following, met_by}
+use Rattle.rv_account.specs.state.After.{parked}
+use Rattle.rv_account.specs.state.After.{request_after}
+use Rattle.rv_account.specs.state.After.{settled_all, told_own, told_partner, with_open}
 use Rattle.rv_machine.specs.declared.tables.Holdings.{Holdings}
 use Rattle.rv_machine.specs.Arriving.{Arrives, MayArrive}
 use Rattle.rv_machine.specs.Ending.{counted}

@@ -19,12 +19,12 @@ use Rattle.rv_session.specs.declared.client.LastRequest.TheVariants.{RepliedTo, 
 use Rattle.rv_session.specs.Clients.{ClientStates, clients_asked, clients_told, place_awaited, place_waiting}
 use Rattle.rv_session.specs.Clients.{with_clients, with_last_number}
 use Rattle.rv_account.specs.Calls.{opposite}
-use Rattle.rv_state.specs.State.{OpenPlace, State, Waiter, client_at, same_side}
-use Rattle.rv_state.specs.After.{Settled, closed, settled_all, told_partner}
-use Rattle.rv_state.proofs.Filtered.{filter_get, find_get}
-use Rattle.rv_state.proofs.SideLines.{same_side_is}
-use Rattle.rv_state.proofs.TableClients.{clients_after_tell}
-use Rattle.rv_state.proofs.Words.{none-some, same_Some}
+use Rattle.rv_account.specs.state.State.{OpenPlace, State, Waiter, client_at, same_side}
+use Rattle.rv_account.specs.state.After.{Settled, closed, settled_all, told_partner}
+use Rattle.rv_account.proofs.OfState.Filtered.{filter_get, find_get}
+use Rattle.rv_account.proofs.OfState.SideLines.{same_side_is}
+use Rattle.rv_account.proofs.OfState.TableClients.{clients_after_tell}
+use Rattle.rv_account.proofs.OfState.Words.{none-some, same_Some}
 use Rattle.rv_machine.specs.declared.tables.Holdings.{Holdings}
 use Rattle.rv_machine.specs.Arriving.{MayArrive}
 use Rattle.rv_machine.specs.open_places.Indexed.{ClosesFirst}

@@ -16,11 +16,12 @@ use Rattle.rv_text.specs.declared.answer.Reply.TheVariants as reply
 use Rattle.rv_text.specs.Calls.{drains_of, item_of, side_of, wait_of}
 use Rattle.rv_session.specs.declared.client.ClientState.{ClientState}
 use Rattle.rv_account.specs.Calls.{opposite}
-use Rattle.rv_state.specs.State.{OpenPlace, State, Waiter, call_waiting, client_at}
-use Rattle.rv_state.specs.After.{Settled, key_of_waiter, receipt_of, session_version, settled_all, told_met}
-use Rattle.rv_state.specs.After.{told_own, told_partner}
-use Rattle.rv_state.proofs.Filtered.{find_get}
-use Rattle.rv_state.proofs.Words.{cons_option, none-some, same_Some}
+use Rattle.rv_account.specs.state.State.{OpenPlace, State, Waiter, call_waiting, client_at}
+use Rattle.rv_account.specs.state.After.{Settled, key_of_waiter, receipt_of, session_version, settled_all}
+use Rattle.rv_account.specs.state.After.{told_met}
+use Rattle.rv_account.specs.state.After.{told_own, told_partner}
+use Rattle.rv_account.proofs.OfState.Filtered.{find_get}
+use Rattle.rv_account.proofs.OfState.Words.{cons_option, none-some, same_Some}
 use Rattle.rv_machine.specs.open_places.OpenMap.{found_at}
 use Rattle.rv_machine.specs.Machines.{IsConsistent, IsWaiter, WaitsLong}
 use Rattle.rv_machine.specs.Telling.{told_arriving, told_on_side}

@@ -16,7 +16,7 @@ use Rattle.rv_text.specs.declared.answer.Refusal.TheVariants.{EpochFull}
 use Rattle.rv_text.specs.declared.answer.Reply.TheVariants.{Cancelled}
 use Rattle.rv_account.specs.Calls.{need_of}
 use Rattle.rv_account.specs.declared.entry.Act.TheVariants as act
-use Rattle.rv_rules.specs.StepLimits.{StepLimits}
+use Rattle.rv_account.specs.rules.StepLimits.{StepLimits}
 use Rattle.rv_session.specs.declared.client.LastRequest.TheVariants.{CancelledUnseen, RepliedTo, Waits}
 use Rattle.rv_session.specs.declared.standing.Greeting.{Greeting}
 use Rattle.rv_session.specs.declared.standing.Greeting.TheVariants.{Again, Unknown, Full, Newer, Older}
@@ -27,11 +27,11 @@ use Rattle.rv_session.specs.ClientMeanings.{GreetingSays, StandingSays}
 use Rattle.rv_session.specs.ClientStandings.{IsNext, IsRefused, Stands, WaitsThere, WasCancelled, WasReplied}
 use Rattle.rv_session.specs.ClientStandings.{stands_as}
 use Rattle.rv_session.specs.Clients.{place_waiting}
-use Rattle.rv_state.specs.State.{ClientState, OpenPlace, State, client_waits, open_at, waiting_count}
-use Rattle.rv_state.specs.After.{cancelled}
-use Rattle.rv_state.specs.Follows.{NumberWaits}
-use Rattle.rv_state.specs.Moves.{Move, RefusesMove, RepeatsMove, StateHelloLinesUnder, StateKeyLines}
-use Rattle.rv_state.specs.Moves.{answer_told, entering, staying, told_again}
+use Rattle.rv_account.specs.state.State.{ClientState, OpenPlace, State, client_waits, open_at, waiting_count}
+use Rattle.rv_account.specs.state.After.{cancelled}
+use Rattle.rv_account.specs.state.Follows.{NumberWaits}
+use Rattle.rv_account.specs.state.Moves.{Move, RefusesMove, RepeatsMove, StateHelloLinesUnder, StateKeyLines}
+use Rattle.rv_account.specs.state.Moves.{answer_told, entering, staying, told_again}
 use Rattle.rv_machine.specs.declared.tables.Holdings.{Holdings}
 use Rattle.rv_machine.specs.Limiting.{LacksPlaceFor}
 use Rattle.rv_machine.specs.Machines.{AwaitsPlace, IsConsistent, IsWhole, state_in}

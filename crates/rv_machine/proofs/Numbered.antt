@@ -7,15 +7,15 @@ use Rattle.rv_text.specs.declared.answer.Reply.{Reply}
 use Rattle.rv_session.specs.declared.client.LastRequest.{LastRequest}
 use Rattle.rv_session.specs.declared.client.LastRequest.TheVariants.{Fresh, Waits, RepliedTo, CancelledUnseen}
 use Rattle.rv_session.specs.Clients.{answered, insert_known, with_request}
-use Rattle.rv_state.specs.State.{ClientState, State}
-use Rattle.rv_state.specs.After.{Settled, tell, with_client}
-use Rattle.rv_state.proofs.TableClients.{clients_after_tell}
-use Rattle.rv_state.proofs.Words.{same_Some}
+use Rattle.rv_account.specs.state.State.{ClientState, State}
+use Rattle.rv_account.specs.state.After.{Settled, tell, with_client}
+use Rattle.rv_account.proofs.OfState.TableClients.{clients_after_tell}
+use Rattle.rv_account.proofs.OfState.Words.{same_Some}
 use Rattle.rv_machine.specs.declared.tables.Holdings.{Holdings}
 use Rattle.rv_machine.specs.Ending.{EndsWaiting}
 use Rattle.rv_machine.specs.Machines.{state_in}
 use Rattle.rv_machine.specs.Numbering.{AreNumbered, IsNumbered}
-use Rattle.rv_state.proofs.Resumed.Sessions.{put_other, put_own}
+use Rattle.rv_account.proofs.OfState.Resumed.Sessions.{put_other, put_own}
 
 abbrev pub AllNumbered : FinMap nat_cmp ClientState → Type 0
 AllNumbered clients = (client : ℕ) (session : ClientState) → get clients client ≡ Some session

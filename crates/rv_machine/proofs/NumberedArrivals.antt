@@ -10,12 +10,12 @@ use Rattle.rv_account.specs.declared.entry.Act.TheVariants.{Arrive}
 use Rattle.rv_session.specs.declared.client.LastRequest.{LastRequest}
 use Rattle.rv_session.specs.declared.client.LastRequest.TheVariants.{Fresh}
 use Rattle.rv_session.specs.Clients.{insert_known, with_last_number}
-use Rattle.rv_state.specs.State.{ClientState, State}
-use Rattle.rv_state.specs.After.{Settled, asked, closed, following, met_by, parked, request_after}
-use Rattle.rv_state.specs.After.{settled_all}
-use Rattle.rv_state.specs.After.{tell, tell_all, told_own, told_partner, with_open}
-use Rattle.rv_state.specs.Follows.{NumberIsNext}
-use Rattle.rv_state.proofs.TableClients.{clients_after_asked}
+use Rattle.rv_account.specs.state.State.{ClientState, State}
+use Rattle.rv_account.specs.state.After.{Settled, asked, closed, following, met_by, parked, request_after}
+use Rattle.rv_account.specs.state.After.{settled_all}
+use Rattle.rv_account.specs.state.After.{tell, tell_all, told_own, told_partner, with_open}
+use Rattle.rv_account.specs.state.Follows.{NumberIsNext}
+use Rattle.rv_account.proofs.OfState.TableClients.{clients_after_asked}
 use Rattle.rv_machine.specs.declared.tables.Holdings.{Holdings}
 use Rattle.rv_machine.specs.Arriving.{Arrives}
 use Rattle.rv_machine.specs.Machines.{state_in}

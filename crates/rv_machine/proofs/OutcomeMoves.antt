@@ -6,10 +6,10 @@ use Rattle.rv_text.specs.declared.answer.Refusal.{Refusal}
 use Rattle.rv_text.specs.declared.message.Key.{Key}
 use Rattle.rv_text.specs.declared.message.Message.{Message}
 use Rattle.rv_account.specs.declared.entry.Entry.{Entry}
-use Rattle.rv_rules.specs.StepLimits.{StepLimits}
-use Rattle.rv_state.specs.State.{OpenPlace, State}
-use Rattle.rv_state.specs.After.{due_at}
-use Rattle.rv_state.specs.Moves.{ticked_at, ticked_if}
+use Rattle.rv_account.specs.rules.StepLimits.{StepLimits}
+use Rattle.rv_account.specs.state.State.{OpenPlace, State}
+use Rattle.rv_account.specs.state.After.{due_at}
+use Rattle.rv_account.specs.state.Moves.{ticked_at, ticked_if}
 use Rattle.rv_machine.specs.declared.tables.Holdings.{Holdings}
 use Rattle.rv_machine.specs.declared.machine.Said.{Said}
 use Rattle.rv_machine.specs.declared.machine.Said.TheVariants as said

@@ -1,7 +1,7 @@
 -- A machine that counted one entry more.
 use Rattle.std.proofs.Common.{◌<◌, ◌≤◌, ◌+◌, ℕ, arith}
 use Rattle.rv_machine.specs.open_places.OpenMap.{most_counted}
-use Rattle.rv_rules.specs.Steps.{max_moment}
+use Rattle.rv_account.specs.rules.Steps.{max_moment}
 use Rattle.rv_machine.specs.declared.tables.Holdings.{Holdings}
 use Rattle.rv_machine.specs.Ending.{counted}
 use Rattle.rv_machine.specs.Machines.{IsWhole}

@@ -22,25 +22,25 @@ use Rattle.rv_text.specs.declared.answer.Reply.TheVariants.{Cancelled}
 use Rattle.rv_account.specs.declared.entry.Act.TheVariants as act
 use Rattle.rv_account.specs.Calls.{need_by, need_of}
 use Rattle.rv_session.specs.Clients.{fresh_state, place_waiting}
-use Rattle.rv_state.specs.State.{ClientState, State, client_at, waiting_count}
-use Rattle.rv_state.specs.After.{following}
-use Rattle.rv_state.specs.Follows.{NumberIsNext, NumberWaits}
-use Rattle.rv_rules.specs.Steps.{RefuseOr}
-use Rattle.rv_state.specs.Moves.{EntersMove, Move, NoEntryMoreUnder, StateKeyLines, StateNextAtUnder}
-use Rattle.rv_state.specs.Moves.{answer_after, answer_told, entering, staying}
-use Rattle.rv_state.proofs.Words.{none-some, same_Some}
-use Rattle.rv_rules.specs.StepLimits.{StepLimits}
+use Rattle.rv_account.specs.state.State.{ClientState, State, client_at, waiting_count}
+use Rattle.rv_account.specs.state.After.{following}
+use Rattle.rv_account.specs.state.Follows.{NumberIsNext, NumberWaits}
+use Rattle.rv_account.specs.rules.Steps.{RefuseOr}
+use Rattle.rv_account.specs.state.Moves.{EntersMove, Move, NoEntryMoreUnder, StateKeyLines, StateNextAtUnder}
+use Rattle.rv_account.specs.state.Moves.{answer_after, answer_told, entering, staying}
+use Rattle.rv_account.proofs.OfState.Words.{none-some, same_Some}
+use Rattle.rv_account.specs.rules.StepLimits.{StepLimits}
 use Rattle.rv_machine.specs.declared.tables.Holdings.{Holdings}
 use Rattle.rv_machine.specs.declared.machine.Said.{Said}
 use Rattle.rv_machine.specs.declared.machine.Said.TheVariants as said
 use Rattle.rv_machine.specs.declared.steps.Heard.{Heard}
-use Rattle.rv_rules.specs.Reach.{widest}
+use Rattle.rv_account.specs.rules.Reach.{widest}
 use Rattle.rv_machine.specs.Machines.{Says, keys_settled, state_in}
 use Rattle.rv_machine.specs.Stepping.{IsHearing}
 use Rattle.rv_machine.specs.Needing.{act_of}
 use Rattle.rv_machine.specs.Redoing.{MayRedo, IsRedone, NeedsNoMemory}
 use Rattle.rv_machine.proofs.HelloMoves.{greeted_idle}
-use Rattle.rv_state.specs.resume.Resuming.{CanResume}
+use Rattle.rv_account.specs.state.resume.Resuming.{CanResume}
 
 -- it is no refusal
 abbrev pub Answers : Answer → Type 0

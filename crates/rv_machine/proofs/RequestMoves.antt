@@ -14,16 +14,17 @@ use Rattle.rv_account.specs.Calls.{need_of}
 use Rattle.rv_account.specs.declared.entry.Act.{Act}
 use Rattle.rv_account.specs.declared.entry.Act.TheVariants as act
 use Rattle.rv_account.specs.declared.entry.Entry.{Entry}
-use Rattle.rv_rules.specs.StepLimits.{StepLimits}
-use Rattle.rv_rules.specs.Steps.{RefuseOr}
+use Rattle.rv_account.specs.rules.StepLimits.{StepLimits}
+use Rattle.rv_account.specs.rules.Steps.{RefuseOr}
 use Rattle.rv_session.specs.declared.client.LastRequest.{LastRequest}
 use Rattle.rv_session.specs.declared.client.LastRequest.TheVariants.{Fresh}
 use Rattle.rv_session.specs.ClientMeanings.{AsksLast, AsksNext, RefusalSays}
-use Rattle.rv_state.specs.State.{State}
-use Rattle.rv_state.specs.Moves.{NoEntryMoreUnder, StateNextAtUnder, StatePlaceLine, answer_after, staying}
-use Rattle.rv_state.specs.Moves.{answer_told, call_asked, entering}
-use Rattle.rv_state.specs.Moves.{told_again}
-use Rattle.rv_state.proofs.Words.{same_Some}
+use Rattle.rv_account.specs.state.State.{State}
+use Rattle.rv_account.specs.state.Moves.{NoEntryMoreUnder, StateNextAtUnder, StatePlaceLine, answer_after}
+use Rattle.rv_account.specs.state.Moves.{staying}
+use Rattle.rv_account.specs.state.Moves.{answer_told, call_asked, entering}
+use Rattle.rv_account.specs.state.Moves.{told_again}
+use Rattle.rv_account.proofs.OfState.Words.{same_Some}
 use Rattle.rv_machine.specs.Arriving.{Arrives, IsAsBefore}
 use Rattle.rv_machine.specs.declared.tables.Holdings.{Holdings}
 use Rattle.rv_machine.specs.declared.machine.Said.TheVariants as said

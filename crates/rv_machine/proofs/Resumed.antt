@@ -14,10 +14,10 @@ use Rattle.rv_session.specs.declared.client.LastRequest.TheVariants.{Waits}
 use Rattle.rv_machine.proofs.OfOpenPlaces.Indexing.{stands_found}
 use Rattle.rv_machine.specs.open_places.OpenMap.{found_at}
 use Rattle.rv_machine.specs.open_places.Reopening.{MayResume, StandsOpen}
-use Rattle.rv_state.proofs.Resumed.Decided.{side_fits}
-use Rattle.rv_state.specs.resume.Resuming.{CanResume, FitsLastRequest, IsLastAt}
-use Rattle.rv_state.specs.State.{ClientState, OpenPlace, State, Waiter, client_at}
-use Rattle.rv_state.proofs.Words.{none-some}
+use Rattle.rv_account.proofs.OfState.Resumed.Decided.{side_fits}
+use Rattle.rv_account.specs.state.resume.Resuming.{CanResume, FitsLastRequest, IsLastAt}
+use Rattle.rv_account.specs.state.State.{ClientState, OpenPlace, State, Waiter, client_at}
+use Rattle.rv_account.proofs.OfState.Words.{none-some}
 use Rattle.rv_machine.specs.Machines.{AwaitsPlace, IsConsistent, IsWaiter, LiesThere}
 use Rattle.rv_machine.specs.Numbering.{AreNumbered}
 

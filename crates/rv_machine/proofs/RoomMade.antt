@@ -6,10 +6,10 @@ use Rattle.rv_account.specs.declared.entry.Act.TheVariants.{Arrive}
 use Rattle.rv_account.specs.declared.entry.Entry.{Entry}
 use Rattle.rv_account.specs.Account.{entry}
 use Rattle.rv_session.specs.Clients.{ClientStates}
-use Rattle.rv_state.specs.After.{following}
-use Rattle.rv_state.specs.Follows.{NumberIsNext, partners_of}
-use Rattle.rv_state.specs.State.{OpenPlace, State}
-use Rattle.rv_state.specs.Moves.{told_again}
+use Rattle.rv_account.specs.state.After.{following}
+use Rattle.rv_account.specs.state.Follows.{NumberIsNext, partners_of}
+use Rattle.rv_account.specs.state.State.{OpenPlace, State}
+use Rattle.rv_account.specs.state.Moves.{told_again}
 use Rattle.rv_machine.specs.Arriving.{Arrives, DiffersInRoom, IsAsBefore, MayArrive}
 use Rattle.rv_machine.specs.declared.tables.Holdings.{Holdings}
 use Rattle.rv_machine.specs.Machines.{IsConsistent, IsWhole, keys_settled, state_in}

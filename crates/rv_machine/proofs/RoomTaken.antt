@@ -12,13 +12,14 @@ use Rattle.rv_text.specs.declared.answer.Refusal.{Refusal}
 use Rattle.rv_text.specs.declared.answer.Refusal.TheVariants.{NoMemory}
 use Rattle.rv_text.specs.declared.answer.Reply.TheVariants.{Cancelled}
 use Rattle.rv_account.specs.declared.entry.Act.TheVariants as act
-use Rattle.rv_rules.specs.StepLimits.{StepLimits}
-use Rattle.rv_state.specs.State.{State, waiting_count}
-use Rattle.rv_state.specs.After.{acted, met_by}
-use Rattle.rv_state.specs.Moves.{EntersMove, Move, RefusesMove, RepeatsMove, StateNextAtUnder, answer_after}
-use Rattle.rv_state.specs.Moves.{answer_told, entering, staying, told_again}
-use Rattle.rv_state.proofs.OpensBy.{opens_by}
-use Rattle.rv_state.proofs.Resumed.Counts.{parks_within, waiting_within}
+use Rattle.rv_account.specs.rules.StepLimits.{StepLimits}
+use Rattle.rv_account.specs.state.State.{State, waiting_count}
+use Rattle.rv_account.specs.state.After.{acted, met_by}
+use Rattle.rv_account.specs.state.Moves.{EntersMove, Move, RefusesMove, RepeatsMove, StateNextAtUnder}
+use Rattle.rv_account.specs.state.Moves.{answer_after}
+use Rattle.rv_account.specs.state.Moves.{answer_told, entering, staying, told_again}
+use Rattle.rv_account.proofs.OfState.OpensBy.{opens_by}
+use Rattle.rv_account.proofs.OfState.Resumed.Counts.{parks_within, waiting_within}
 use Rattle.rv_machine.specs.Needing.{act_of, message_need}
 use Rattle.rv_machine.specs.open_places.OpenMap.{count_waiting}
 use Rattle.rv_machine.proofs.Deciding.{by_cancel, by_hello, by_request}

@@ -5,13 +5,13 @@ use Rattle.rv_text.specs.declared.call.Call.{Call}
 use Rattle.rv_text.specs.declared.message.Key.{Key}
 use Rattle.rv_text.specs.declared.answer.Refusal.{Refusal}
 use Rattle.rv_text.specs.declared.answer.Refusal.TheVariants.{EpochFull, OtherCall}
-use Rattle.rv_rules.specs.StepLimits.{StepLimits}
-use Rattle.rv_rules.specs.Steps.{RefuseOr}
+use Rattle.rv_account.specs.rules.StepLimits.{StepLimits}
+use Rattle.rv_account.specs.rules.Steps.{RefuseOr}
 use Rattle.rv_session.specs.declared.client.LastRequest.{LastRequest}
 use Rattle.rv_session.specs.ClientMeanings.{AsksLast}
-use Rattle.rv_state.specs.Moves.{CallDiffers, NoEntryMoreUnder, StatePlaceLine, call_asked}
-use Rattle.rv_state.specs.State.{ClientState, State, waiting_count}
-use Rattle.rv_state.proofs.Words.{same_Some}
+use Rattle.rv_account.specs.state.Moves.{CallDiffers, NoEntryMoreUnder, StatePlaceLine, call_asked}
+use Rattle.rv_account.specs.state.State.{ClientState, State, waiting_count}
+use Rattle.rv_account.proofs.OfState.Words.{same_Some}
 use Rattle.rv_machine.specs.declared.tables.Holdings.{Holdings}
 use Rattle.rv_machine.specs.Limiting.{LacksPlace}
 use Rattle.rv_machine.specs.Machines.{state_in}

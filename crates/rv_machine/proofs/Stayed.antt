@@ -24,13 +24,15 @@ use Rattle.rv_session.specs.Clients.{clients_asked, place_waiting, with_last_num
 use Rattle.rv_account.specs.declared.entry.Act.TheVariants.{Arrive}
 use Rattle.rv_account.specs.Calls.{Lasts, may_name, need_by, need_of, opposite}
 use Rattle.rv_machine.specs.open_places.OpenMap.{most_counted}
-use Rattle.rv_rules.specs.Steps.{max_moment}
-use Rattle.rv_state.specs.State.{OpenPlace, State, Waiter, client_at}
-use Rattle.rv_state.specs.After.{Following, advanced, following, lasts_by, met_by, opened_by, request_after}
-use Rattle.rv_state.specs.After.{closed, parked, stays_open, told_alone, told_unmet, waiter_of, with_open}
-use Rattle.rv_state.specs.Follows.{NumberIsNext}
-use Rattle.rv_state.proofs.Filtered.{append_get}
-use Rattle.rv_state.proofs.Words.{none-some, same_Some}
+use Rattle.rv_account.specs.rules.Steps.{max_moment}
+use Rattle.rv_account.specs.state.State.{OpenPlace, State, Waiter, client_at}
+use Rattle.rv_account.specs.state.After.{Following, advanced, following, lasts_by, met_by, opened_by}
+use Rattle.rv_account.specs.state.After.{request_after}
+use Rattle.rv_account.specs.state.After.{closed, parked, stays_open, told_alone, told_unmet, waiter_of}
+use Rattle.rv_account.specs.state.After.{with_open}
+use Rattle.rv_account.specs.state.Follows.{NumberIsNext}
+use Rattle.rv_account.proofs.OfState.Filtered.{append_get}
+use Rattle.rv_account.proofs.OfState.Words.{none-some, same_Some}
 use Rattle.rv_model_queues.specs.Meeting.{StaysBy}
 use Rattle.rv_machine.specs.open_places.OpenMap.{PlacesRise, found_at, opposed_in, count_waiting}
 use Rattle.rv_machine.specs.Machines.{IsConsistent, IsWaiter, LiesThere, AwaitsPlace, last_key_in}

@@ -18,9 +18,9 @@ use Rattle.rv_session.specs.Clients.{ClientStates, clients_asked, place_awaited,
 use Rattle.rv_session.specs.Clients.{with_clients, with_last_number}
 use Rattle.rv_account.specs.declared.entry.Act.TheVariants.{Arrive}
 use Rattle.rv_account.specs.Account.{entry}
-use Rattle.rv_state.specs.State.{OpenPlace, State, client_at, place_list}
-use Rattle.rv_state.specs.After.{Following, opened_by, request_after, told_alone}
-use Rattle.rv_state.specs.Moves.{told_again}
+use Rattle.rv_account.specs.state.State.{OpenPlace, State, client_at, place_list}
+use Rattle.rv_account.specs.state.After.{Following, opened_by, request_after, told_alone}
+use Rattle.rv_account.specs.state.Moves.{told_again}
 use Rattle.rv_model_queues.specs.Meeting.{StaysBy}
 use Rattle.rv_machine.specs.declared.tables.Holdings.{Holdings}
 use Rattle.rv_machine.specs.Arriving.{Arrives, MayArrive, after_put}

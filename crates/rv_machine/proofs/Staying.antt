@@ -5,8 +5,8 @@ use Rattle.rv_text.specs.declared.answer.Answer.{Answer}
 use Rattle.rv_text.specs.declared.answer.Answer.TheVariants.{Refused}
 use Rattle.rv_text.specs.declared.answer.Refusal.{Refusal}
 use Rattle.rv_text.specs.declared.message.Message.{Message}
-use Rattle.rv_rules.specs.StepLimits.{StepLimits}
-use Rattle.rv_state.specs.Moves.{StateNextAtUnder, staying}
+use Rattle.rv_account.specs.rules.StepLimits.{StepLimits}
+use Rattle.rv_account.specs.state.Moves.{StateNextAtUnder, staying}
 use Rattle.rv_machine.specs.declared.tables.Holdings.{Holdings}
 use Rattle.rv_machine.specs.declared.machine.Said.{Said}
 use Rattle.rv_machine.specs.declared.machine.Said.TheVariants as said

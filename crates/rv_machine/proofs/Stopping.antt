@@ -7,8 +7,8 @@ use Rattle.std.proofs.lemmas.List.Elements.{filter_map-append}
 use Rattle.std.proofs.lemmas.List.Folds.{list_any-append}
 use Rattle.std.proofs.lemmas.List.Sums.{fold-append}
 use Rattle.rv_text.specs.declared.answer.Reply.{Reply}
-use Rattle.rv_state.specs.State.{OpenPlace, State, Waiter}
-use Rattle.rv_state.specs.After.{Settled, but, closed, settled_at, stopped, tell}
+use Rattle.rv_account.specs.state.State.{OpenPlace, State, Waiter}
+use Rattle.rv_account.specs.state.After.{Settled, but, closed, settled_at, stopped, tell}
 use Rattle.rv_machine.proofs.OfOpenPlaces.Parted.{but_none, filter_twice}
 
 filter_same : {X : Type 0} (p q : X → Bool) (xs : List X) → ((x : X) → p x ≡ q x) → filter p xs ≡ filter q xs

@@ -12,10 +12,11 @@ use Rattle.std.specs.List.{cons_option, filter_map}
 use Rattle.rv_text.specs.declared.message.Key.{Key}
 use Rattle.rv_text.specs.declared.version.Version.{Version}
 use Rattle.rv_text.specs.declared.call.Side.TheVariants.{Gives}
-use Rattle.rv_state.specs.State.{ClientState, OpenPlace, State, client_at}
-use Rattle.rv_state.specs.After.{Settled, but, closed, receipt_of, session_version, settled_all, settled_at}
-use Rattle.rv_state.specs.After.{tell}
-use Rattle.rv_state.proofs.ToldClients.{get_tell_all, told_client}
+use Rattle.rv_account.specs.state.State.{ClientState, OpenPlace, State, client_at}
+use Rattle.rv_account.specs.state.After.{Settled, but, closed, receipt_of, session_version, settled_all}
+use Rattle.rv_account.specs.state.After.{settled_at}
+use Rattle.rv_account.specs.state.After.{tell}
+use Rattle.rv_account.proofs.OfState.ToldClients.{get_tell_all, told_client}
 use Rattle.rv_machine.specs.declared.tables.Holdings.{Holdings}
 use Rattle.rv_machine.specs.Machines.{IsWhole, keys_settled, state_in}
 use Rattle.rv_machine.specs.open_places.OpenMap.{line_in, all_but}

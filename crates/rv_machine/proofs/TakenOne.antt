@@ -12,10 +12,10 @@ use Rattle.rv_text.specs.declared.answer.Reply.{Reply}
 use Rattle.rv_text.specs.declared.call.Side.TheVariants.{Gives}
 use Rattle.rv_session.specs.OwedDuty.{OwedDuty}
 use Rattle.rv_session.specs.Clients.{ClientStates, clients_told, place_awaited, with_clients}
-use Rattle.rv_state.specs.State.{ClientState, OpenPlace, State, Waiter}
-use Rattle.rv_state.specs.After.{Settled, closed}
-use Rattle.rv_state.proofs.Words.{none-some}
-use Rattle.rv_state.proofs.Filtered.{find_get}
+use Rattle.rv_account.specs.state.State.{ClientState, OpenPlace, State, Waiter}
+use Rattle.rv_account.specs.state.After.{Settled, closed}
+use Rattle.rv_account.proofs.OfState.Words.{none-some}
+use Rattle.rv_account.proofs.OfState.Filtered.{find_get}
 use Rattle.rv_machine.specs.declared.tables.Holdings.{Holdings}
 use Rattle.rv_machine.specs.open_places.Indexed.{ClosesPlace, ClosesFirst}
 use Rattle.rv_machine.specs.Machines.{IsConsistent, IsWhole, IsWaiter, keys_settled, state_in}

@@ -8,7 +8,7 @@ use Rattle.rv_session.specs.declared.client.ClientState.{ClientState}
 use Rattle.rv_session.specs.declared.client.LastRequest.{LastRequest}
 use Rattle.rv_session.specs.Clients.{answered, clients_asked, clients_told, insert_known, with_last_number}
 use Rattle.rv_session.specs.Clients.{with_request}
-use Rattle.rv_state.proofs.Resumed.Sessions.{ClientMap, put_other, put_own}
+use Rattle.rv_account.proofs.OfState.Resumed.Sessions.{ClientMap, put_other, put_own}
 
 known_own : (m : ClientMap) (client : ℕ) (becomes : ClientState → ClientState) (session : ClientState)
     → get m client ≡ Some session

@@ -12,11 +12,11 @@ use Rattle.rv_account.specs.declared.entry.Entry.{Entry}
 use Rattle.rv_account.specs.declared.entry.Act.TheVariants.{Arrive}
 use Rattle.rv_account.specs.Account.{entry}
 use Rattle.rv_account.specs.Calls.{need_of}
-use Rattle.rv_rules.specs.Steps.{max_moment}
-use Rattle.rv_state.specs.State.{ClientState, client_at}
-use Rattle.rv_state.specs.After.{following}
-use Rattle.rv_state.specs.Follows.{NumberIsNext, partners_of}
-use Rattle.rv_state.specs.Moves.{told_again}
+use Rattle.rv_account.specs.rules.Steps.{max_moment}
+use Rattle.rv_account.specs.state.State.{ClientState, client_at}
+use Rattle.rv_account.specs.state.After.{following}
+use Rattle.rv_account.specs.state.Follows.{NumberIsNext, partners_of}
+use Rattle.rv_account.specs.state.Moves.{told_again}
 use Rattle.rv_machine.specs.declared.tables.Holdings.{Holdings}
 use Rattle.rv_machine.specs.Machines.{IsWhole, keys_settled, state_in}
 use Rattle.rv_machine.specs.open_places.OpenMap.{count_waiting}

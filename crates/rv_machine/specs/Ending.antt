@@ -1,8 +1,8 @@
 -- What it is to end a wait.
 use Rattle.std.specs.Prelude.{◌≡◌, ◌+◌, ◌++◌, ◌∷◌, [], ℕ, Some}
 use Rattle.rv_text.specs.declared.answer.Reply.{Reply}
-use Rattle.rv_state.specs.State.{OpenPlace, Waiter}
-use Rattle.rv_state.specs.After.{closed}
+use Rattle.rv_account.specs.state.State.{OpenPlace, Waiter}
+use Rattle.rv_account.specs.state.After.{closed}
 use Rattle.rv_machine.specs.declared.tables.Holdings.{Holdings}
 use Rattle.rv_machine.specs.Machines.{state_in}
 use Rattle.rv_machine.specs.open_places.OpenMap.{found_at}

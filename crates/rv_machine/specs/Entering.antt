@@ -6,9 +6,9 @@ use Rattle.rv_text.specs.declared.message.Key.{Key}
 use Rattle.rv_session.specs.declared.client.LastRequest.TheVariants.{Waits}
 use Rattle.rv_session.specs.ClientMeanings.{AsksLast}
 use Rattle.rv_session.specs.Clients.{place_waiting}
-use Rattle.rv_rules.specs.StepLimits.{StepLimits}
-use Rattle.rv_state.specs.Follows.{IsNewIncarnation}
-use Rattle.rv_state.specs.State.{ClientState, State, client_at}
+use Rattle.rv_account.specs.rules.StepLimits.{StepLimits}
+use Rattle.rv_account.specs.state.Follows.{IsNewIncarnation}
+use Rattle.rv_account.specs.state.State.{ClientState, State, client_at}
 use Rattle.rv_machine.specs.declared.tables.Holdings.{Holdings}
 use Rattle.rv_machine.specs.Machines.{state_in}
 use Rattle.rv_machine.specs.open_places.OpenMap.{count_waiting}

@@ -4,8 +4,8 @@ use Rattle.rv_text.specs.declared.call.Call.{Call}
 use Rattle.rv_text.specs.declared.message.Message.{Message}
 use Rattle.rv_text.specs.declared.message.Message.TheVariants.{Hello, Request, Cancel}
 use Rattle.rv_text.specs.declared.answer.Refusal.TheVariants.{EpochFull}
-use Rattle.rv_state.specs.Moves.{NoPlaceMore}
-use Rattle.rv_state.specs.State.{State}
+use Rattle.rv_account.specs.state.Moves.{NoPlaceMore}
+use Rattle.rv_account.specs.state.State.{State}
 
 -- under a bound on open places, an arrival with this call would stay although there is no place for it
 abbrev pub LacksPlace : Option ℕ → State → Call → Type 0

@@ -14,12 +14,12 @@ use Rattle.rv_text.specs.Calls.{item_of, side_of, wait_of}
 use Rattle.rv_session.specs.declared.client.LastRequest.TheVariants.{Waits}
 use Rattle.rv_account.specs.declared.entry.Entry.{Entry}
 use Rattle.rv_account.specs.Calls.{Lasts}
-use Rattle.rv_rules.specs.StepLimits.{StepLimits}
-use Rattle.rv_rules.specs.Steps.{max_moment}
-use Rattle.rv_state.specs.State.{ClientState, OpenPlace, State, Waiter, client_at}
-use Rattle.rv_state.specs.After.{Settled}
-use Rattle.rv_state.specs.Moves.{Move, StateNextAtUnder, answer_told, told_again}
-use Rattle.rv_rules.specs.Reach.{most_known}
+use Rattle.rv_account.specs.rules.StepLimits.{StepLimits}
+use Rattle.rv_account.specs.rules.Steps.{max_moment}
+use Rattle.rv_account.specs.state.State.{ClientState, OpenPlace, State, Waiter, client_at}
+use Rattle.rv_account.specs.state.After.{Settled}
+use Rattle.rv_account.specs.state.Moves.{Move, StateNextAtUnder, answer_told, told_again}
+use Rattle.rv_account.specs.rules.Reach.{most_known}
 use Rattle.rv_machine.specs.declared.tables.Holdings.{Holdings}
 use Rattle.rv_machine.specs.declared.machine.Said.{Said}
 use Rattle.rv_machine.specs.declared.machine.Said.TheVariants as said

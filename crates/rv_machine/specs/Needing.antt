@@ -7,9 +7,9 @@ use Rattle.rv_text.specs.declared.answer.Refusal.TheVariants.{NoMemory}
 use Rattle.rv_account.specs.declared.entry.Act.{Act}
 use Rattle.rv_account.specs.declared.entry.Act.TheVariants as act
 use Rattle.rv_account.specs.Calls.{need_of}
-use Rattle.rv_rules.specs.StepLimits.{StepLimits}
-use Rattle.rv_state.specs.State.{State, waiting_count}
-use Rattle.rv_state.specs.Moves.{Move, StateNextAtUnder, staying}
+use Rattle.rv_account.specs.rules.StepLimits.{StepLimits}
+use Rattle.rv_account.specs.state.State.{State, waiting_count}
+use Rattle.rv_account.specs.state.Moves.{Move, StateNextAtUnder, staying}
 use Rattle.rv_machine.specs.Limiting.{LacksPlaceFor}
 
 -- how many entries a message may come to need: its own, and one that ends its wait

@@ -1,7 +1,7 @@
 -- How the numbers of a state's sessions stand.
 use Rattle.std.specs.Prelude.{◌≡◌, ℕ, Some}
 use Rattle.rv_session.specs.declared.client.LastRequest.TheVariants.{Fresh}
-use Rattle.rv_state.specs.State.{ClientState, State, client_at}
+use Rattle.rv_account.specs.state.State.{ClientState, State, client_at}
 
 -- the last number of a session is 0 exactly where it asked nothing yet
 pub record IsNumbered (session : ClientState) : Type 0 where

@@ -2,10 +2,10 @@
 use Rattle.std.specs.Prelude.{◌≡◌, ◌≢◌, ◌<◌, [], ℕ}
 use Rattle.rv_account.specs.declared.entry.Act.{Act}
 use Rattle.rv_account.specs.declared.entry.Act.TheVariants.{Hello, Arrive, Cancel, Tick}
-use Rattle.rv_state.specs.State.{State}
-use Rattle.rv_state.specs.After.{due_at, following}
-use Rattle.rv_state.specs.Follows.{MomentFits, NumberFits, NumberWaits}
-use Rattle.rv_state.specs.resume.Resuming.{CanResume, StaysInRoom}
+use Rattle.rv_account.specs.state.State.{State}
+use Rattle.rv_account.specs.state.After.{due_at, following}
+use Rattle.rv_account.specs.state.Follows.{MomentFits, NumberFits, NumberWaits}
+use Rattle.rv_account.specs.state.resume.Resuming.{CanResume, StaysInRoom}
 use Rattle.rv_machine.specs.declared.tables.Holdings.{Holdings}
 use Rattle.rv_machine.specs.Machines.{keys_settled, state_in}
 

@@ -1,6 +1,6 @@
 -- Why no machine was made of a state.
-use Rattle.rv_state.specs.resume.Resuming.{CanResume}
-use Rattle.rv_state.specs.State.{State}
+use Rattle.rv_account.specs.state.resume.Resuming.{CanResume}
+use Rattle.rv_account.specs.state.State.{State}
 use Rattle.rv_machine.specs.declared.state.NoMachine.{NoMachine}
 use Rattle.rv_machine.specs.declared.state.NoMachine.TheVariants.{Unfit, NoMemory}
 

@@ -4,8 +4,8 @@ use Rattle.std.specs.Prelude.{filter_map}
 use Rattle.rv_text.specs.declared.message.Key.{Key}
 use Rattle.rv_text.specs.declared.call.Side.TheVariants.{Gives}
 use Rattle.rv_text.specs.declared.answer.Reply.{Reply}
-use Rattle.rv_state.specs.State.{OpenPlace, State, place_list}
-use Rattle.rv_state.specs.After.{Settled, closed, receipt_of, session_version, settled_all}
+use Rattle.rv_account.specs.state.State.{OpenPlace, State, place_list}
+use Rattle.rv_account.specs.state.After.{Settled, closed, receipt_of, session_version, settled_all}
 use Rattle.rv_machine.specs.declared.tables.Holdings.{Holdings}
 use Rattle.rv_machine.specs.Machines.{keys_settled, state_in}
 use Rattle.rv_machine.specs.open_places.OpenMap.{line_in, count_waiting}

@@ -13,8 +13,8 @@ use Rattle.rv_text.specs.declared.answer.Reply.TheVariants as reply
 use Rattle.rv_session.specs.OwedDuty.{OwedDuty}
 use Rattle.rv_session.specs.declared.client.ClientState.{ClientState}
 use Rattle.rv_session.specs.Clients.{clients_told, place_awaited, with_clients}
-use Rattle.rv_state.specs.State.{Waiter}
-use Rattle.rv_state.specs.After.{receipt_of}
+use Rattle.rv_account.specs.state.State.{Waiter}
+use Rattle.rv_account.specs.state.After.{receipt_of}
 use Rattle.rv_machine.specs.declared.tables.Holdings.{Holdings}
 
 -- the reply of a request, other than a put or a drain, that meets one with this key and item: for a giver

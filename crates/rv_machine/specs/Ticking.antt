@@ -2,9 +2,9 @@
 use Rattle.std.specs.Prelude.{◌≡◌, ◌+◌, ◌++◌, ◌∷◌, ◌≤◌, [], ℕ, List, Some, length}
 use Rattle.rv_text.specs.declared.answer.Reply.TheVariants.{TimedOut}
 use Rattle.rv_account.specs.declared.entry.Entry.{Entry}
-use Rattle.rv_state.specs.State.{OpenPlace, Waiter}
-use Rattle.rv_state.specs.After.{closed, stopped}
-use Rattle.rv_state.specs.Moves.{ticked_at}
+use Rattle.rv_account.specs.state.State.{OpenPlace, Waiter}
+use Rattle.rv_account.specs.state.After.{closed, stopped}
+use Rattle.rv_account.specs.state.Moves.{ticked_at}
 use Rattle.rv_machine.specs.declared.tables.Holdings.{Holdings}
 use Rattle.rv_machine.specs.Machines.{keys_settled, state_in}
 use Rattle.rv_machine.specs.open_places.OpenMap.{due_in, count_waiting}

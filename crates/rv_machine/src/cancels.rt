@@ -1,8 +1,8 @@
 //! Cancels: of a request that waits, and of one that did not come yet.
 ghost use Rattle.std.specs.Prelude.{◌≤◌, [], ◌∷◌, IfOk, IfErr, option_to_list};
 ghost use Rattle.rv_text.specs.declared.message.Message.TheVariants.{Cancel};
-ghost use Rattle.rv_rules.specs.StepLimits.{StepLimits};
-ghost use Rattle.rv_rules.specs.Steps.{max_moment};
+ghost use Rattle.rv_account.specs.rules.StepLimits.{StepLimits};
+ghost use Rattle.rv_account.specs.rules.Steps.{max_moment};
 ghost use Rattle.rv_session.specs.ClientMeanings.{AsksNext};
 ghost use Rattle.rv_machine.specs.declared.machine.Said.TheVariants as said;
 ghost use Rattle.rv_machine.specs.Entering.{LastWaits};
@@ -10,8 +10,8 @@ ghost use Rattle.rv_machine.specs.Machines.{WasHeard, IsWhole, SameListRoom, Mov
 ghost use Rattle.rv_machine.specs.Numbering.{AreNumbered};
 
 use crate::tables::Holdings;
+use rv_account::rules::Limits;
 use rv_account::{Act, Entry, Partners};
-use rv_rules::Limits;
 use rv_session::{KeyStanding, Place};
 use rv_text::{Key, Refusal, Reply};
 

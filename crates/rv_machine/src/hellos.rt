@@ -5,10 +5,10 @@ ghost use Rattle.rv_machine.specs.open_places.OpenMap.{count_waiting, most_count
 ghost use Rattle.rv_text.specs.declared.message.Message.TheVariants.{Hello};
 ghost use Rattle.rv_account.specs.Account.{entry};
 ghost use Rattle.rv_account.specs.declared.entry.Act.TheVariants as act;
-ghost use Rattle.rv_rules.specs.Steps.{max_moment};
+ghost use Rattle.rv_account.specs.rules.Steps.{max_moment};
 ghost use Rattle.rv_session.specs.ClientMeanings.{HasLowerState};
 ghost use Rattle.rv_session.specs.Clients.{fresh_state};
-ghost use Rattle.rv_state.specs.After.{advanced, with_client};
+ghost use Rattle.rv_account.specs.state.After.{advanced, with_client};
 ghost use Rattle.rv_machine.specs.declared.machine.Said.TheVariants as said;
 ghost use Rattle.rv_machine.specs.Ending.{counted};
 ghost use Rattle.rv_machine.specs.Entering.{CanReopen};
@@ -16,8 +16,8 @@ ghost use Rattle.rv_machine.specs.Machines.{WasHeard, IsWhole, SameListRoom, Was
 ghost use Rattle.rv_machine.specs.Numbering.{AreNumbered};
 
 use crate::tables::Holdings;
+use rv_account::rules::Limits;
 use rv_account::{Act, Entry, Partners};
-use rv_rules::Limits;
 use rv_session::{Greeting, Place};
 use rv_text::{Refusal, Reply, Version};
 

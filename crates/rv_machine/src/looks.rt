@@ -5,8 +5,8 @@ ghost use Rattle.rv_text.specs.Limits.{FitsQueue, FitsSide};
 ghost use Rattle.rv_machine.specs.open_places.OpenMap.{first_behind, most_counted};
 ghost use Rattle.rv_session.specs.ClientOrder.{next_client};
 ghost use Rattle.rv_text.specs.declared.call.Side.TheVariants.{Gives, Takes};
-ghost use Rattle.rv_state.specs.After.{due_at};
-ghost use Rattle.rv_state.specs.State.{client_at, line, open_at, place_list, waiting_count};
+ghost use Rattle.rv_account.specs.state.After.{due_at};
+ghost use Rattle.rv_account.specs.state.State.{client_at, line, open_at, place_list, waiting_count};
 ghost use Rattle.rv_machine.specs.Machines.{state_in};
 ghost use Rattle.rv_machine.specs.Redoing.{IsNextLimit};
 

@@ -6,7 +6,7 @@ ghost use Rattle.rv_text.specs.Calls.{drains_of, item_of, side_of};
 ghost use Rattle.rv_machine.specs.Arriving.{Arrives, IsAsBefore, MayArrive};
 ghost use Rattle.rv_machine.specs.Machines.{IsWhole};
 ghost use Rattle.rv_machine.specs.open_places.OpenMap.{opposed_in};
-ghost use Rattle.rv_state.specs.After.{receipt_of};
+ghost use Rattle.rv_account.specs.state.After.{receipt_of};
 ghost use Rattle.rv_machine.specs.Telling.{TellsOne, TellsWaiter, told_arriving, told_on_side};
 
 use crate::open_places::MetPlace;

@@ -2,7 +2,7 @@
 ghost use Rattle.std.specs.Prelude.{◌≡◌, ◌≤◌, [], true, false};
 ghost use Rattle.rv_text.specs.Limits.{FitsMessage};
 ghost use Rattle.rv_account.specs.Limits.{FitsAct};
-ghost use Rattle.rv_rules.specs.Steps.{max_moment};
+ghost use Rattle.rv_account.specs.rules.Steps.{max_moment};
 ghost use Rattle.rv_machine.specs.Machines.{IsWhole, state_in};
 ghost use Rattle.rv_machine.specs.Needing.{act_of};
 ghost use Rattle.rv_machine.specs.Numbering.{AreNumbered};
@@ -11,7 +11,7 @@ ghost use Rattle.rv_machine.specs.Redoing.{MayRedo, IsRedone, NeedsNoMemory};
 use crate::machine::{Machine, Said};
 use crate::tables::Holdings;
 use rv_account::Act;
-use rv_rules::Limits;
+use rv_account::rules::Limits;
 use rv_text::Message;
 
 impl Holdings {

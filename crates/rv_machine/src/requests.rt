@@ -4,7 +4,7 @@ ghost use Rattle.rv_text.specs.declared.message.Message.TheVariants.{Request};
 ghost use Rattle.rv_text.specs.declared.answer.Refusal.TheVariants.{NoMemory, OtherCall};
 ghost use Rattle.rv_text.specs.Calls.{side_of, wait_of};
 ghost use Rattle.rv_text.specs.Limits.{FitsCall};
-ghost use Rattle.rv_rules.specs.Steps.{max_moment};
+ghost use Rattle.rv_account.specs.rules.Steps.{max_moment};
 ghost use Rattle.rv_session.specs.ClientMeanings.{AsksNext};
 ghost use Rattle.rv_model_queues.specs.Meeting.{StaysBy};
 ghost use Rattle.rv_machine.specs.Arriving.{Arrives, IsAsBefore, MayArrive};
@@ -13,8 +13,8 @@ ghost use Rattle.rv_machine.specs.Machines.{WasHeard, IsWhole, SameListRoom, Was
 ghost use Rattle.rv_machine.specs.Numbering.{AreNumbered};
 
 use crate::tables::Holdings;
+use rv_account::rules::Limits;
 use rv_account::{Entry, lasts, need_of};
-use rv_rules::Limits;
 use rv_session::KeyStanding;
 use rv_text::{Call, Key, NoMemory, Refusal, Side};
 

@@ -1,6 +1,6 @@
 //! The space among an epoch's entries: whether there is some, and which messages need it.
 ghost use Rattle.std.specs.Prelude.{◌≡◌, ◌↔◌, ◌≤◌, ◌<◌, ◌+◌, true, false, IsTrue};
-ghost use Rattle.rv_rules.specs.Steps.{max_entries};
+ghost use Rattle.rv_account.specs.rules.Steps.{max_entries};
 ghost use Rattle.rv_text.specs.Limits.{FitsCall, FitsMessage};
 ghost use Rattle.rv_machine.specs.open_places.OpenMap.{count_waiting, most_counted};
 ghost use Rattle.rv_machine.specs.Entering.{HasSpaceFor};
@@ -13,7 +13,7 @@ use crate::machine::Machine;
 use crate::requests::stays;
 use crate::tables::Holdings;
 use rv_account::need_of;
-use rv_rules::Limits;
+use rv_account::rules::Limits;
 use rv_session::{Greeting, KeyStanding};
 use rv_text::{Call, Message};
 

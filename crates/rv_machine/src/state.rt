@@ -1,6 +1,6 @@
 //! The state of a machine as such: a copy of it, and a machine that goes on from one.
 ghost use Rattle.std.specs.Prelude.{◌≡◌, IfErr, IfOk, []};
-ghost use Rattle.rv_state.specs.resume.Resuming.{CanResume};
+ghost use Rattle.rv_account.specs.state.resume.Resuming.{CanResume};
 ghost use Rattle.rv_machine.specs.Machines.{IsWhole, state_in};
 ghost use Rattle.rv_machine.specs.Numbering.{AreNumbered};
 ghost use Rattle.rv_machine.specs.Remaking.{IsWhyNot};
@@ -8,9 +8,9 @@ ghost use Rattle.rv_machine.specs.Remaking.{IsWhyNot};
 use crate::machine::Machine;
 use crate::open_places::OpenTable;
 use crate::tables::Holdings;
-use rv_rules::MOST_KNOWN;
+use rv_account::rules::MOST_KNOWN;
+use rv_account::state::resume::Snapshot;
 use rv_session::ReturnedClients;
-use rv_state::resume::Snapshot;
 use rv_text::NoMemory;
 use std::alloc::Global;
 

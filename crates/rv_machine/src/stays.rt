@@ -2,8 +2,8 @@
 ghost use Rattle.std.specs.Prelude.{◌≡◌, ◌≤◌, [], Some, IfOk, IfSome, OnErr, OnOk};
 ghost use Rattle.rv_session.specs.Clients.{place_awaited};
 ghost use Rattle.rv_account.specs.Calls.{Lasts};
-ghost use Rattle.rv_rules.specs.Steps.{max_moment};
-ghost use Rattle.rv_state.specs.After.{opened_by};
+ghost use Rattle.rv_account.specs.rules.Steps.{max_moment};
+ghost use Rattle.rv_account.specs.state.After.{opened_by};
 ghost use Rattle.rv_text.specs.Calls.{item_of, side_of, wait_of};
 ghost use Rattle.rv_text.specs.Limits.{FitsCall};
 ghost use Rattle.rv_model_queues.specs.Meeting.{StaysBy};

@@ -1,9 +1,9 @@
 //! Steps: a machine opens; each step is a tick at a moment that is handed in, and then a message is heard.
 ghost use Rattle.std.specs.Prelude.{◌≡◌, ◌≤◌, None, IfErr, IfOk, []};
 ghost use Rattle.rv_text.specs.Limits.{FitsMessage};
-ghost use Rattle.rv_rules.specs.Steps.{capped_moment, max_moment};
-ghost use Rattle.rv_state.specs.State.{opening};
-ghost use Rattle.rv_state.specs.Moves.{state_moment};
+ghost use Rattle.rv_account.specs.rules.Steps.{capped_moment, max_moment};
+ghost use Rattle.rv_account.specs.state.State.{opening};
+ghost use Rattle.rv_account.specs.state.Moves.{state_moment};
 ghost use Rattle.rv_machine.specs.declared.machine.Said.TheVariants.{Refused};
 ghost use Rattle.rv_machine.specs.Machines.{IsWhole, SameListRoom, state_in};
 ghost use Rattle.rv_machine.specs.Numbering.{AreNumbered};
@@ -13,7 +13,7 @@ use crate::machine::{Machine, Said};
 use crate::open_places::OpenTable;
 use crate::tables::Holdings;
 use rv_account::Entry;
-use rv_rules::{Limits, MOST_KNOWN};
+use rv_account::rules::{Limits, MOST_KNOWN};
 use rv_session::Clients;
 use rv_text::{Message, NoMemory, Refusal};
 use std::alloc::Global;

@@ -5,7 +5,7 @@ ghost use Rattle.rv_machine.specs.open_places.Indexed.{WaitsIn};
 ghost use Rattle.rv_machine.specs.Machines.{IsWhole, SameListRoom};
 ghost use Rattle.rv_machine.specs.Ending.{EndsWaiting, counted};
 ghost use Rattle.rv_account.specs.Account.{entry};
-ghost use Rattle.rv_rules.specs.Steps.{max_moment};
+ghost use Rattle.rv_account.specs.rules.Steps.{max_moment};
 
 use crate::open_places::OpenTable;
 use rv_account::{Act, Entry, Partners};

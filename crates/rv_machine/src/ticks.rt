@@ -1,6 +1,6 @@
 //! Time-outs: all that is due is ended, by one tick.
 ghost use Rattle.std.specs.Prelude.{◌≡◌, ◌≤◌, [], true, false, option_to_list};
-ghost use Rattle.rv_rules.specs.Steps.{max_moment};
+ghost use Rattle.rv_account.specs.rules.Steps.{max_moment};
 ghost use Rattle.rv_machine.specs.Machines.{IsWhole, SameListRoom, state_in};
 ghost use Rattle.rv_machine.specs.Numbering.{AreNumbered};
 ghost use Rattle.rv_machine.specs.open_places.OpenMap.{due_in};

@@ -4,10 +4,10 @@ use Rattle.rv_replies.proofs.Words.{refl, ℕ, Arrive, Reply, Call, Key, Settled
 use Rattle.rv_replies.proofs.Words.{LastRequest, OpenPlace, State, client_at, with_last, told_again}
 use Rattle.rv_replies.proofs.Words.{told_last_by}
 use Rattle.rv_replies.proofs.Words.{met_by}
-use Rattle.rv_state.specs.After.{closed, parked, request_after, settled_all, told_own, told_partner}
-use Rattle.rv_state.specs.After.{with_open}
-use Rattle.rv_state.specs.Follows.{NumberIsNext}
-use Rattle.rv_state.proofs.ToldClients.{get_own, get_tell_all, told_client}
+use Rattle.rv_account.specs.state.After.{closed, parked, request_after, settled_all, told_own, told_partner}
+use Rattle.rv_account.specs.state.After.{with_open}
+use Rattle.rv_account.specs.state.Follows.{NumberIsNext}
+use Rattle.rv_account.proofs.OfState.ToldClients.{get_own, get_tell_all, told_client}
 
 told_after : (place : ℕ) (call : Call) (told : Option Reply)
     → told_again (request_after place call told) ≡ told

@@ -6,8 +6,8 @@ use Rattle.rv_replies.proofs.Words.{Reply, Key, ended_by, fate_in, Changes, Ends
 use Rattle.rv_replies.proofs.Words.{Fate, Fates}
 use Rattle.std.proofs.Common.{◌+◌, ◌<◌, add-one, get_or, take}
 use Rattle.std.proofs.Math.Seq.{take-length, take-suc}
-use Rattle.rv_rules.proofs.Deciding.{key_or_other}
-use Rattle.rv_rules.proofs.Places.{get-append, get-append_cases, get-append_end}
+use Rattle.rv_account.proofs.OfRules.Deciding.{key_or_other}
+use Rattle.rv_account.proofs.OfRules.Places.{get-append, get-append_cases, get-append_end}
 use Rattle.rv_replies.specs.declared.findings.fate.Fate.TheVariants.{CancelledUnseen, RepliedTo, Unnamed}
 use Rattle.rv_replies.specs.declared.findings.fate.Fate.TheVariants.{Waits}
 

@@ -5,8 +5,8 @@ use Rattle.rv_replies.proofs.Words.{length, refl, same_Some, slice_get, subst, s
 use Rattle.std.proofs.Common.{◌&&◌, Bool, IsSome, cond, false, is_some, nat_eq, true, unwrap_or}
 use Rattle.std.proofs.lemmas.Bool.{false≢true}
 use Rattle.std.specs.Map.{lookup}
-use Rattle.rv_rules.proofs.Deciding.{key_or_other}
-use Rattle.rv_rules.proofs.Places.{get-append, get-append_cases, get-append_end, within}
+use Rattle.rv_account.proofs.OfRules.Deciding.{key_or_other}
+use Rattle.rv_account.proofs.OfRules.Places.{get-append, get-append_cases, get-append_end, within}
 use Rattle.rv_replies.specs.Firsts.{IsBeside, IsFirstOf, KnowsFirsts, NotesFirst, StandsBeside, first_in}
 use Rattle.rv_replies.specs.declared.records.Beside.{Beside}
 use Rattle.rv_text.specs.declared.answer.Reply.{Reply}

@@ -9,23 +9,24 @@ use Rattle.rv_replies.proofs.Words.{get-append_end, Waiting, Settled, following,
 use Rattle.rv_replies.proofs.Words.{Reply, Call, Key, told_last_by, told_now, Comes, more, buried}
 use Rattle.rv_replies.proofs.Words.{ended, ended_by, own_fate, IsFateOf, NamesNowhere, IsAbout, fate_in}
 use Rattle.rv_replies.proofs.Words.{Changes, EndsEach, NotesOwn, Turns, Fate, Fates}
-use Rattle.rv_rules.proofs.Deciding.{key_or_other, waits_or_not}
-use Rattle.rv_rules.proofs.Legality.{follows_itself}
+use Rattle.rv_account.proofs.OfRules.Deciding.{key_or_other, waits_or_not}
+use Rattle.rv_account.proofs.OfRules.Legality.{follows_itself}
 use Rattle.rv_machine.specs.Machines.{keys_settled, state_in}
 use Rattle.rv_machine.specs.declared.machine.Machine.{Machine}
 use Rattle.rv_replies.specs.Known.{HasPassedBy}
-use Rattle.rv_state.proofs.Agreed.{agreed, state_pushed}
-use Rattle.rv_state.proofs.Becoming.{cancelled_on, replied_on}
-use Rattle.rv_state.proofs.ClientsAfter.{cancel_became}
-use Rattle.rv_state.proofs.EntrySays.{comes_to_state}
-use Rattle.rv_state.proofs.Finding.{mapped_stands}
-use Rattle.rv_state.proofs.FollowsBoth.{account_to_state}
-use Rattle.rv_state.proofs.Telling.{all_settled, own_replies, own_waits, settled_replies, settled_waits_not}
+use Rattle.rv_account.proofs.OfState.Agreed.{agreed, state_pushed}
+use Rattle.rv_account.proofs.OfState.Becoming.{cancelled_on, replied_on}
+use Rattle.rv_account.proofs.OfState.ClientsAfter.{cancel_became}
+use Rattle.rv_account.proofs.OfState.EntrySays.{comes_to_state}
+use Rattle.rv_account.proofs.OfState.Finding.{mapped_stands}
+use Rattle.rv_account.proofs.OfState.FollowsBoth.{account_to_state}
+use Rattle.rv_account.proofs.OfState.Telling.{all_settled, own_replies, own_waits, settled_replies}
+use Rattle.rv_account.proofs.OfState.Telling.{settled_waits_not}
 use Rattle.rv_replies.proofs.Arriving.{own_told_in}
 use Rattle.rv_replies.proofs.Settled.{settled_has, settled_told}
 use Rattle.rv_replies.specs.declared.findings.fate.Fate.TheVariants.{CancelledUnseen, RepliedTo, Unnamed}
 use Rattle.rv_replies.specs.declared.findings.fate.Fate.TheVariants.{Waits}
-use Rattle.rv_state.specs.Follows.{NumberFits}
+use Rattle.rv_account.specs.state.Follows.{NumberFits}
 
 -- what no reply changes stays
 ended_still : (told : Option Reply) (fate : Fate) → ((reply : Reply) → ended reply fate ≡ fate)

@@ -10,14 +10,14 @@ use Rattle.rv_replies.proofs.Words.{ClientState}
 use Rattle.rv_replies.proofs.Words.{LastRequest, State, client_at, Call, Key, with_last}
 use Rattle.rv_replies.proofs.Words.{HasReplied, told_again, told_last_by, told_now, Comes, more}
 use Rattle.rv_session.specs.declared.client.LastRequest.TheVariants.{CancelledUnseen, Fresh, RepliedTo, Waits}
-use Rattle.rv_rules.specs.Replies.{HasReply}
-use Rattle.rv_rules.proofs.Waits.{arrival}
-use Rattle.rv_state.proofs.Agreed.{agreed, state_pushed}
-use Rattle.rv_state.proofs.OneTold.{one_call, one_reply, reply_or_waits}
-use Rattle.rv_state.proofs.Sessions.{known, waits_in_state}
-use Rattle.rv_state.proofs.Settling.{tells, was_settled}
-use Rattle.rv_state.proofs.Telling.{IsSettledBy, settled_replies}
-use Rattle.rv_state.proofs.ToldClients.{get_other, get_tell_all, told_client}
+use Rattle.rv_account.specs.rules.Replies.{HasReply}
+use Rattle.rv_account.proofs.OfRules.Waits.{arrival}
+use Rattle.rv_account.proofs.OfState.Agreed.{agreed, state_pushed}
+use Rattle.rv_account.proofs.OfState.OneTold.{one_call, one_reply, reply_or_waits}
+use Rattle.rv_account.proofs.OfState.Sessions.{known, waits_in_state}
+use Rattle.rv_account.proofs.OfState.Settling.{tells, was_settled}
+use Rattle.rv_account.proofs.OfState.Telling.{IsSettledBy, settled_replies}
+use Rattle.rv_account.proofs.OfState.ToldClients.{get_other, get_tell_all, told_client}
 
 -- ---- a client that an arrival doesn't name
 

@@ -5,8 +5,8 @@ use Rattle.rv_replies.proofs.Words.{is_named, length, Key, IsFateOf, NamesNowher
 use Rattle.rv_replies.proofs.Words.{Fate, Fates}
 use Rattle.std.proofs.Common.{IsSome, Ok, Err, OnOk, Result, is_some, unwrap_or}
 use Rattle.rv_account.specs.Account.{key_at}
-use Rattle.rv_rules.proofs.Deciding.{key_or_other}
-use Rattle.rv_rules.proofs.Places.{get-append_cases}
+use Rattle.rv_account.proofs.OfRules.Deciding.{key_or_other}
+use Rattle.rv_account.proofs.OfRules.Places.{get-append_cases}
 use Rattle.rv_replies.specs.Known.{AsksAbout}
 use Rattle.rv_replies.specs.Firsts.{KnowsFirsts, NotesFirst}
 use Rattle.rv_replies.specs.Standing.{AsksNothing, HasNoted}

@@ -5,9 +5,9 @@ use Rattle.rv_text.specs.declared.call.Call.{Call}
 use Rattle.rv_text.specs.declared.answer.Reply.{Reply}
 use Rattle.rv_account.specs.declared.entry.Act.{Act}
 use Rattle.rv_account.specs.declared.entry.Act.TheVariants.{Arrive, Cancel, Hello, Tick}
-use Rattle.rv_rules.specs.Replies.{told_by}
-use Rattle.rv_state.specs.Moves.{told_again}
-use Rattle.rv_state.specs.State.{ClientState, State, client_at}
+use Rattle.rv_account.specs.rules.Replies.{told_by}
+use Rattle.rv_account.specs.state.Moves.{told_again}
+use Rattle.rv_account.specs.state.State.{ClientState, State, client_at}
 use Rattle.rv_replies.specs.declared.changes.Change.{Change}
 use Rattle.rv_replies.specs.declared.changes.Change.TheVariants.{Becomes, Cancels, Ends}
 use Rattle.rv_replies.specs.declared.findings.fate.Fate.{Fate}

@@ -4,8 +4,8 @@ use Rattle.std.specs.Map.{lookup}
 use Rattle.rv_text.specs.declared.message.Key.{Key}
 use Rattle.rv_account.specs.Account.{Account, with_entry}
 use Rattle.rv_account.specs.declared.entry.Entry.{Entry}
-use Rattle.rv_rules.specs.Legal.{Legal}
-use Rattle.rv_state.specs.After.{following, state_of}
+use Rattle.rv_account.specs.rules.Legal.{Legal}
+use Rattle.rv_account.specs.state.After.{following, state_of}
 use Rattle.rv_machine.specs.Machines.{keys_settled, state_in}
 use Rattle.rv_machine.specs.declared.machine.Machine.{Machine}
 use Rattle.rv_replies.specs.declared.findings.fate.Fate.{Fate}

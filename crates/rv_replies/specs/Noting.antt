@@ -4,7 +4,7 @@ use Rattle.rv_text.specs.declared.message.Key.{Key}
 use Rattle.rv_text.specs.declared.answer.Reply.{Reply}
 use Rattle.rv_account.specs.declared.entry.Act.{Act}
 use Rattle.rv_account.specs.declared.entry.Act.TheVariants.{Arrive, Cancel, Hello, Tick}
-use Rattle.rv_state.specs.State.{State}
+use Rattle.rv_account.specs.state.State.{State}
 use Rattle.rv_replies.specs.Ending.{buried, ended_by, own_fate, told_last_by}
 use Rattle.rv_replies.specs.Known.{fate_in}
 use Rattle.rv_replies.specs.declared.findings.fate.Fate.{Fate}

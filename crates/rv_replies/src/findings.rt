@@ -1,7 +1,7 @@
 //! Findings on an account, and on a reply that a client got, by what became of its request.
 ghost use Rattle.std.specs.Prelude.{◌≡◌, ◌↔◌, IsTrue};
 ghost use Rattle.rv_account.specs.Account.{Account};
-ghost use Rattle.rv_rules.specs.Legal.{Legal};
+ghost use Rattle.rv_account.specs.rules.Legal.{Legal};
 ghost use Rattle.rv_text.specs.declared.answer.Reply.TheVariants.{Counted, Drained};
 ghost use Rattle.rv_replies.specs.findings.Fates.{IsFateOf};
 ghost use Rattle.rv_replies.specs.findings.Judging.{IsByCall, SaidInstead, TellsSame, kept_by};

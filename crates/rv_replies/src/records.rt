@@ -2,7 +2,7 @@
 ghost use Rattle.std.specs.Prelude.{◌≡◌, ◌<◌, ◌++◌, ◌==◌, ◌∷◌, [], ℕ, IfSome, IsSome, OnOk, length};
 ghost use Rattle.std.specs.Prelude.{◌↔◌, IsTrue, None, Some, option_map, slice_get};
 ghost use Rattle.rv_account.specs.Account.{Account, with_entry};
-ghost use Rattle.rv_rules.specs.Legal.{Legal};
+ghost use Rattle.rv_account.specs.rules.Legal.{Legal};
 ghost use Rattle.rv_replies.specs.Firsts.{IsBeside};
 ghost use Rattle.rv_replies.specs.declared.findings.Told as replies;
 

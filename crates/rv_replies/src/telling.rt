@@ -1,7 +1,7 @@
 //! The reply that a request got, read off the machine that passed its entry.
 ghost use Rattle.std.specs.Prelude.{◌≡◌, IfOk};
 ghost use Rattle.rv_machine.specs.Machines.{state_in};
-ghost use Rattle.rv_state.specs.Moves.{told_again};
+ghost use Rattle.rv_account.specs.state.Moves.{told_again};
 ghost use Rattle.rv_replies.specs.Ending.{told_last_by, told_now};
 
 use crate::findings::told_by;

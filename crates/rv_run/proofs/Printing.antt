@@ -3,7 +3,7 @@ use Rattle.std.proofs.Common.{◌≡◌, ◌<◌, ◌≤◌, ◌+◌, ◌-◌, �
 use Rattle.std.proofs.Common.{refl, sym, ap, subst, ◌∙◌, length, take, arith, append_assoc, length-append}
 use Rattle.std.proofs.Math.Seq.{take-append-add}
 use Rattle.std.specs.Io.KnownBytes.{Appends, append_known}
-use Rattle.rv_lines.specs.Lines.{printed_lines}
+use Rattle.rv_book.specs.lines.Lines.{printed_lines}
 
 -- what holds of the bytes that were read holds of those that the source had
 pub read_bytes : (o : Option (List ℕ)) (items : List ℕ) (P : List ℕ → Type 0)

@@ -5,7 +5,7 @@ use Rattle.std.specs.declared.alloc.Global.{Global}
 use Rattle.std.specs.Io.KnownBytes.{append_known}
 use Rattle.rv_frame.specs.declared.sink.Sink.{Sink}
 use Rattle.rv_frame.specs.Sink.{SinkTakes}
-pub use Rattle.rv_lines.specs.Lines.{IsShort}
+pub use Rattle.rv_book.specs.lines.Lines.{IsShort}
 use Rattle.rv_run.specs.declared.output.Output.{Output}
 
 -- the bytes that wait to be sent

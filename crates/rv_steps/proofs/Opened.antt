@@ -2,12 +2,12 @@
 use Rattle.std.proofs.Common.{◌≡◌, ◌≤◌, ℕ, arith, subst, sym}
 use Rattle.rv_text.specs.Limits.{FitsIdentifier}
 use Rattle.rv_account.specs.Limits.{max_moment}
-use Rattle.rv_rules.specs.Steps.{capped_moment}
-use Rattle.rv_state.specs.State.{opening}
+use Rattle.rv_account.specs.rules.Steps.{capped_moment}
+use Rattle.rv_account.specs.state.State.{opening}
 use Rattle.rv_machine.specs.Machines.{state_in}
 use Rattle.rv_machine.specs.declared.machine.Machine.{Machine}
-use Rattle.rv_state.specs.resume.Resuming.{CanResume}
-use Rattle.rv_state.proofs.Resumed.ResumeLaws.{openings_resume}
+use Rattle.rv_account.specs.state.resume.Resuming.{CanResume}
+use Rattle.rv_account.proofs.OfState.Resumed.ResumeLaws.{openings_resume}
 
 fits : FitsIdentifier 1
 fits = grind arith

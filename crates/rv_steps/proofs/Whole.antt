@@ -3,10 +3,11 @@ use Rattle.std.proofs.Common.{◌≡◌, ◌∙◌, ◌++◌, ℕ, refl, sym, su
 use Rattle.std.proofs.lemmas.Option.{same_Some}
 use Rattle.rv_text.specs.declared.answer.Answer.{Answer}
 use Rattle.rv_text.specs.declared.message.Message.{Message}
-use Rattle.rv_rules.specs.StepLimits.{StepLimits}
-use Rattle.rv_state.specs.Moves.{Move, StateNextAtUnder, StateNextUnder, answer_told, state_moment, ticked_at}
-use Rattle.rv_state.specs.Moves.{told_again}
-use Rattle.rv_state.specs.State.{State}
+use Rattle.rv_account.specs.rules.StepLimits.{StepLimits}
+use Rattle.rv_account.specs.state.Moves.{Move, StateNextAtUnder, StateNextUnder, answer_told, state_moment}
+use Rattle.rv_account.specs.state.Moves.{ticked_at}
+use Rattle.rv_account.specs.state.Moves.{told_again}
+use Rattle.rv_account.specs.state.State.{State}
 use Rattle.rv_machine.specs.Machines.{Says, state_in}
 use Rattle.rv_machine.specs.Stepping.{IsHearing, IsTick}
 use Rattle.rv_machine.specs.declared.machine.Machine.{Machine}

@@ -3,11 +3,11 @@ ghost use Rattle.rv_steps.specs.Ready.{CanFollow};
 
 use crate::steps::{Made, answer_line};
 use rv_account::Entry;
-use rv_follow::{Followed, follow};
+use rv_account::rules::Limits;
+use rv_account::state::resume::Snapshot;
 use rv_machine::Machine;
-use rv_rules::Limits;
-use rv_state::resume::Snapshot;
 use rv_text::{Key, NoMemory};
+use rv_verify::follow::{Followed, follow};
 use std::alloc::Global;
 
 /// Answers a line, and puts a machine made anew in the place of the one that heard it, if that is wanted.

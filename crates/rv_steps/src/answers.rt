@@ -1,7 +1,7 @@
 //! The answer that is made from what a step says, and from the state after it.
 ghost use Rattle.std.specs.Prelude.{◌≡◌, IfOk};
 ghost use Rattle.rv_text.specs.declared.answer.Answer.{Answer as AnswerOf};
-ghost use Rattle.rv_state.specs.Moves.{answer_told, told_again};
+ghost use Rattle.rv_account.specs.state.Moves.{answer_told, told_again};
 ghost use Rattle.rv_machine.specs.Machines.{Says, state_in};
 
 use rv_machine::{Machine, Said};

@@ -1,14 +1,14 @@
 //! What lines are handed to, a machine or a hub, and what is printed for each line.
-ghost use Rattle.rv_rules.specs.StepLimits.{AreStepLimits};
+ghost use Rattle.rv_account.specs.rules.StepLimits.{AreStepLimits};
 
 use crate::EPOCH;
 use crate::anew::answer_by;
 use crate::events::{LineWords, read_event, read_piece, read_show, words_of};
 use crate::telling::{show, tell};
 use crate::words::Beginning;
+use rv_account::rules::Limits;
 use rv_hub::Hub;
 use rv_machine::Machine;
-use rv_rules::Limits;
 use rv_text::NoMemory;
 use std::alloc::Global;
 

@@ -5,8 +5,8 @@
 //! ends the run.
 use crate::hexes::read_hex;
 use crate::words::read_size;
+use rv_book::lines::{cut_at, read_number};
 use rv_hub::HubEvent;
-use rv_lines::{cut_at, read_number};
 use rv_text::NoMemory;
 use std::alloc::Global;
 

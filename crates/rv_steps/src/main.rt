@@ -32,7 +32,7 @@
 //! is stored.
 #![tactic(auto)]
 
-ghost use Rattle.rv_rules.specs.StepLimits.{AreStepLimits};
+ghost use Rattle.rv_account.specs.rules.StepLimits.{AreStepLimits};
 
 mod anew;
 mod answers;
@@ -52,10 +52,10 @@ use bodies::read_bodies;
 use driver::{Driver, answer, begin};
 use journals::add_lines;
 use json::rewrite_lines;
+use rv_account::rules::Limits;
+use rv_book::lines::first_line;
 use rv_frame::Source;
-use rv_lines::first_line;
 use rv_machine::Machine;
-use rv_rules::Limits;
 use rv_run::read_input;
 use std::alloc::Global;
 use std::env;

@@ -1,14 +1,14 @@
 //! The step of a line: its message is heard at its moment under limits, and its answer is written.
 ghost use Rattle.std.specs.Prelude.{◌≡◌, IfOk};
 ghost use Rattle.rv_text.specs.Limits.{FitsMessage};
-ghost use Rattle.rv_state.specs.Moves.{Move, StateNextUnder};
+ghost use Rattle.rv_account.specs.state.Moves.{Move, StateNextUnder};
 ghost use Rattle.rv_machine.specs.Machines.{state_in};
 
 use crate::answers::answer_of;
 use rv_account::Entry;
-use rv_lines::{LineFault, cut_at, read_number};
+use rv_account::rules::Limits;
+use rv_book::lines::{LineFault, cut_at, read_number};
 use rv_machine::Machine;
-use rv_rules::Limits;
 use rv_text::{
     Answer, BAD_TEXT_BODY, Key, Message, NO_MEMORY_BODY, NoMemory, decode_message, encode_answer,
 };

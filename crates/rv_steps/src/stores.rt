@@ -1,8 +1,8 @@
 //! The store of a folder, to whose present account lines are added until the program is killed.
 use crate::journals::{TakesLines, add_each};
 use anyhow::bail;
-use rv_folder::{SystemFolder, SystemFolderFault};
 use rv_frame::Lasting;
+use rv_journal::folders::{SystemFolder, SystemFolderFault};
 use rv_journal::{OpenFault, SystemFile};
 use rv_store::{
     AccountJournal, PresentFault, RecoveryFault, StoredAccount, begin_account, open_present,

@@ -9,8 +9,8 @@
 //! connections among so many numbers, and the last line.
 use crate::hexes::{written_hex, written_sum};
 use rv_account::Entry;
+use rv_book::lines::entry_line;
 use rv_hub::{EventRefusal, Hub};
-use rv_lines::entry_line;
 use rv_server_connections::connection::Wire;
 use rv_server_connections::subscribers::ConnectionNumber;
 use rv_text::NoMemory;

@@ -1,8 +1,8 @@
 //! Items put and taken in turn by the program itself: what a machine takes as its entries grow.
 
 use crate::EPOCH;
+use rv_account::rules::Limits;
 use rv_machine::{Machine, Said};
-use rv_rules::Limits;
 use rv_text::{Call, Item, Key, Message, NoMemory, Version, Wait};
 use std::alloc::Global;
 

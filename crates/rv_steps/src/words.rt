@@ -1,9 +1,9 @@
 //! Reads what the program is to do from its words.
 ghost use Rattle.std.specs.Prelude.{IfSome};
-ghost use Rattle.rv_rules.specs.StepLimits.{AreStepLimits};
+ghost use Rattle.rv_account.specs.rules.StepLimits.{AreStepLimits};
 
-use rv_lines::{read_identifier, read_number};
-use rv_rules::Limits;
+use rv_account::rules::Limits;
+use rv_book::lines::{read_identifier, read_number};
 
 /// What is done under limits.
 #[derive(Drop)]

@@ -4,13 +4,13 @@ use Rattle.std.proofs.Common.{subst, sym}
 use Rattle.std.specs.Prelude.{◌≢◌}
 use Rattle.std.proofs.lemmas.Bool.{false≢true}
 use Rattle.rv_journal.specs.Text.{IsLines}
-use Rattle.rv_lines.specs.Lines.{lines}
+use Rattle.rv_book.specs.lines.Lines.{lines}
 use Rattle.rv_machine.specs.Machines.{state_in}
 use Rattle.rv_machine.specs.declared.machine.Machine.{Machine}
 use Rattle.rv_replies.specs.declared.findings.verdict.AccountFinding.{AccountFinding}
 use Rattle.rv_replies.specs.declared.records.Records.{Records}
-use Rattle.rv_state.specs.State.{State}
-use Rattle.rv_state.proofs.Agreed.{agreed}
+use Rattle.rv_account.specs.state.State.{State}
+use Rattle.rv_account.proofs.OfState.Agreed.{agreed}
 use Rattle.rv_verify.specs.Standing.{HoldsAccountOf}
 use Rattle.rv_verify.specs.declared.ongoing.OngoingAudit.{OngoingAudit}
 use Rattle.rv_store.specs.Format.{IsFormatFault, IsJournalOf, format}

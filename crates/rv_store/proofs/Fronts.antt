@@ -7,9 +7,9 @@ use Rattle.std.proofs.lemmas.List.{length-take}
 use Rattle.std.specs.Prelude.{◌==◌, ◌||◌}
 use Rattle.rv_journal.specs.Text.{whole_lines}
 use Rattle.rv_journal.proofs.Lines.{has_lf, none, whole_lines-append, whole_lines-lf}
-use Rattle.rv_lines.proofs.Cutting.{Lacks}
-use Rattle.rv_lines.proofs.ReadBack.{AllLines}
-use Rattle.rv_lines.specs.Lines.{printed_lines}
+use Rattle.rv_book.proofs.OfLines.Cutting.{Lacks}
+use Rattle.rv_book.proofs.OfLines.ReadBack.{AllLines}
+use Rattle.rv_book.specs.lines.Lines.{printed_lines}
 
 -- A front of printed lines has so many whole ones: all that are no longer than it.
 pub record HasWholeLines (lines : List (List ℕ)) (left : List ℕ) : Type 0 where

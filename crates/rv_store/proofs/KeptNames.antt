@@ -1,9 +1,9 @@
 -- What isn't opened after calls that keep the names of a folder, isn't opened in the folder before them.
 use Rattle.std.proofs.Common.{◌≡◌, ◌∙◌, ℕ, IsTrue, Option, Some, subst, sym}
 use Rattle.std.specs.Prelude.{is_some}
-use Rattle.rv_folder.specs.Folder.{Directory, GivenFile, KeepsNames, SameNames, WhereNamed}
-use Rattle.rv_folder.specs.Present.{IsPresent}
-use Rattle.rv_folder.specs.declared.folder.FileName.TheVariants.{Account}
+use Rattle.rv_journal.specs.folders.Folder.{Directory, GivenFile, KeepsNames, SameNames, WhereNamed}
+use Rattle.rv_journal.specs.folders.Present.{IsPresent}
+use Rattle.rv_journal.specs.declared.folders.folder.FileName.TheVariants.{Account}
 use Rattle.rv_journal.specs.Device.{Disk}
 use Rattle.rv_journal.specs.declared.fault.OpenFault.{OpenFault}
 use Rattle.rv_store.specs.Store.{FailsPresent, IsPresentFile}

@@ -9,3 +9,5 @@ mod ReadOn
 mod Refused
 mod Reopened
 mod Told
+pub mod OfServers
+pub mod OfKeeping

@@ -6,19 +6,19 @@ use Rattle.rv_account.specs.Limits.{max_moment}
 use Rattle.rv_account.specs.declared.entry.Entry.{Entry}
 use Rattle.rv_journal.specs.Device.{Disk}
 use Rattle.rv_journal.specs.Journal.{IsDurable, journal_text}
-use Rattle.rv_lines.specs.Lines.{lines, printed_lines}
-use Rattle.rv_lines.specs.Written.{FitsLinesUnder, account_lines, head_text}
-use Rattle.rv_lines.proofs.ReadBack.{lines_again}
+use Rattle.rv_book.specs.lines.Lines.{lines, printed_lines}
+use Rattle.rv_book.specs.lines.Written.{FitsLinesUnder, account_lines, head_text}
+use Rattle.rv_book.proofs.OfLines.ReadBack.{lines_again}
 use Rattle.rv_machine.specs.Machines.{state_in}
 use Rattle.rv_machine.specs.declared.machine.Machine.{Machine}
-use Rattle.rv_rules.specs.Legal.{Legal}
-use Rattle.rv_rules.specs.Steps.{capped_moment}
-use Rattle.rv_rules.proofs.Words.{none-some}
-use Rattle.rv_state.specs.After.{state_of}
-use Rattle.rv_state.specs.State.{State, opening}
-use Rattle.rv_state.specs.resume.Laws.{HadRoom}
-use Rattle.rv_state.specs.resume.Resuming.{CanResume, StaysInRoom}
-use Rattle.rv_state.proofs.Resumed.ResumeLaws.{openings_resume}
+use Rattle.rv_account.specs.rules.Legal.{Legal}
+use Rattle.rv_account.specs.rules.Steps.{capped_moment}
+use Rattle.rv_account.proofs.OfRules.Words.{none-some}
+use Rattle.rv_account.specs.state.After.{state_of}
+use Rattle.rv_account.specs.state.State.{State, opening}
+use Rattle.rv_account.specs.state.resume.Laws.{HadRoom}
+use Rattle.rv_account.specs.state.resume.Resuming.{CanResume, StaysInRoom}
+use Rattle.rv_account.proofs.OfState.Resumed.ResumeLaws.{openings_resume}
 use Rattle.rv_text.specs.Limits.{FitsIdentifier}
 use Rattle.rv_verify.specs.Verdicts.{ReadsLong, long_limits}
 use Rattle.rv_store.specs.Entered.{IsStored}

@@ -4,7 +4,7 @@ use Rattle.std.proofs.Common.{subst, sym}
 use Rattle.std.specs.List.{All}
 use Rattle.std.specs.Prelude.{Err, IfErr, Ok, Result}
 use Rattle.rv_journal.specs.Text.{IsLines}
-use Rattle.rv_lines.specs.Lines.{lines}
+use Rattle.rv_book.specs.lines.Lines.{lines}
 use Rattle.rv_replies.specs.declared.findings.verdict.AccountFinding.{AccountFinding}
 use Rattle.rv_replies.specs.declared.findings.verdict.AccountVerdict.TheVariants as verdict
 use Rattle.rv_replies.specs.declared.records.Records.{Records}

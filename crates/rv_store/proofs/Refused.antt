@@ -8,9 +8,9 @@ use Rattle.std.proofs.lemmas.List.Elements.{All-head, All-tail}
 use Rattle.rv_journal.specs.Cutter.{RefusesFront}
 use Rattle.rv_journal.specs.Opened.{LacksOf, MakesOf}
 use Rattle.rv_journal.specs.Text.{IsLines}
-use Rattle.rv_lines.specs.Lines.{lines}
-use Rattle.rv_lines.proofs.Cutting.{Lacks}
-use Rattle.rv_lines.proofs.OneLine.{greater_lack, line_append}
+use Rattle.rv_book.specs.lines.Lines.{lines}
+use Rattle.rv_book.proofs.OfLines.Cutting.{Lacks}
+use Rattle.rv_book.proofs.OfLines.OneLine.{greater_lack, line_append}
 use Rattle.rv_store.specs.Format.{HasNoFormat, IsJournalOf, IsVersionIn, format}
 use Rattle.rv_replies.specs.declared.findings.verdict.AccountFinding.{AccountFinding}
 use Rattle.rv_store.specs.Reading.{HasReadJournal, HoldsJournal, IsFaultOfFront, IsFaultOfText, IsNoAccount}

@@ -17,20 +17,20 @@ use Rattle.rv_engine.proofs.Stored.{told_is_stored}
 use Rattle.rv_frame.specs.Lasting.{HasFrontAfter}
 use Rattle.rv_hub.specs.HubRuns.{AddsEntries, IsHubAccount, made_in, run_effects}
 use Rattle.rv_hub.specs.dispatcher.View.{DispatcherTerms}
-use Rattle.rv_rules.specs.StepLimits.{AreStepLimits}
+use Rattle.rv_account.specs.rules.StepLimits.{AreStepLimits}
 use Rattle.rv_hub.specs.Turns.{made_by}
 use Rattle.rv_hub.proofs.OneRun.{hubs_are_runs}
 use Rattle.rv_journal.specs.Text.{whole_lines}
 use Rattle.rv_journal.proofs.Lines.{whole_lines-append, whole_lines-lf}
-use Rattle.rv_lines.specs.Lines.{lines, printed_lines}
-use Rattle.rv_lines.specs.Written.{FitsLinesUnder, account_lines, entry_text, head_text}
-use Rattle.rv_lines.proofs.ReadBack.{all_in_lines, lines_again}
-use Rattle.rv_rules.specs.Legal.{Legal, before}
-use Rattle.rv_rules.proofs.Places.{within}
-use Rattle.rv_server_crashes.proofs.Room.{events_keep_room, fronts_go_on}
-use Rattle.rv_state.specs.After.{state_of}
-use Rattle.rv_state.specs.resume.Laws.{HadRoom}
-use Rattle.rv_state.proofs.Agreed.{agreed}
+use Rattle.rv_book.specs.lines.Lines.{lines, printed_lines}
+use Rattle.rv_book.specs.lines.Written.{FitsLinesUnder, account_lines, entry_text, head_text}
+use Rattle.rv_book.proofs.OfLines.ReadBack.{all_in_lines, lines_again}
+use Rattle.rv_account.specs.rules.Legal.{Legal, before}
+use Rattle.rv_account.proofs.OfRules.Places.{within}
+use Rattle.rv_store.proofs.OfServers.Room.{events_keep_room, fronts_go_on}
+use Rattle.rv_account.specs.state.After.{state_of}
+use Rattle.rv_account.specs.state.resume.Laws.{HadRoom}
+use Rattle.rv_account.proofs.OfState.Agreed.{agreed}
 use Rattle.rv_text.specs.Members.{max_identifier}
 use Rattle.rv_verify.specs.Verdicts.{ReadsLong, long_limits}
 use Rattle.rv_store.specs.Format.{format}

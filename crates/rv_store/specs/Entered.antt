@@ -1,12 +1,12 @@
 -- What a start makes of a store.
 use Rattle.std.specs.Prelude.{◌≡◌, ◌≤◌, ℕ}
-use Rattle.rv_folder.specs.Begun.{IsAccountIn, KeepsOthers}
-use Rattle.rv_folder.specs.Folder.{Directory, FileNames, WhereNamed}
-use Rattle.rv_folder.specs.Present.{IsPresent}
+use Rattle.rv_journal.specs.folders.Begun.{IsAccountIn, KeepsOthers}
+use Rattle.rv_journal.specs.folders.Folder.{Directory, FileNames, WhereNamed}
+use Rattle.rv_journal.specs.folders.Present.{IsPresent}
 use Rattle.rv_journal.specs.Device.{Disk}
 use Rattle.rv_journal.specs.Journal.{IsDurable, journal_text}
 use Rattle.rv_machine.specs.Machines.{state_in}
-use Rattle.rv_state.specs.State.{opening}
+use Rattle.rv_account.specs.state.State.{opening}
 use Rattle.rv_text.specs.Members.{max_identifier}
 use Rattle.rv_store.specs.Epochs.{IsChoice}
 use Rattle.rv_store.specs.Format.{first_text}

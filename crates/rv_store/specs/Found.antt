@@ -10,11 +10,11 @@ use Rattle.rv_frame.specs.Lasting.{HasFrontAfter}
 use Rattle.rv_hub.specs.HubRuns.{AddsEntries, IsHubAccount, made_in}
 use Rattle.rv_hub.specs.dispatcher.View.{DispatcherTerms}
 use Rattle.rv_journal.specs.Text.{whole_lines}
-use Rattle.rv_lines.specs.Lines.{lines, printed_lines}
-use Rattle.rv_lines.specs.Written.{account_lines}
-use Rattle.rv_rules.specs.StepLimits.{AreStepLimits}
-use Rattle.rv_server_crashes.specs.Room.{LetsGoOn}
-use Rattle.rv_state.specs.resume.Laws.{HadRoom}
+use Rattle.rv_book.specs.lines.Lines.{lines, printed_lines}
+use Rattle.rv_book.specs.lines.Written.{account_lines}
+use Rattle.rv_account.specs.rules.StepLimits.{AreStepLimits}
+use Rattle.rv_store.specs.servers.Room.{LetsGoOn}
+use Rattle.rv_account.specs.state.resume.Laws.{HadRoom}
 use Rattle.rv_verify.specs.Verdicts.{ReadsLong}
 use Rattle.rv_store.specs.Format.{IsJournalOf, format}
 

@@ -9,3 +9,5 @@ pub mod Store
 -- What the laws of a reader rest on.
 pub mod Joined
 pub mod WholeLines
+pub mod servers
+pub mod keeping

@@ -3,12 +3,12 @@ use Rattle.std.specs.Prelude.{◌≡◌, ◌≢◌, ◌++◌, [], ℕ, Bool, tru
 use Rattle.rv_journal.specs.Device.{Disk, WhereTold}
 use Rattle.rv_journal.specs.Opened.{Looks, file_lines}
 use Rattle.rv_journal.specs.Text.{IsLines}
-use Rattle.rv_lines.specs.Lines.{lines}
+use Rattle.rv_book.specs.lines.Lines.{lines}
 use Rattle.rv_machine.specs.Machines.{state_in}
 use Rattle.rv_machine.specs.declared.machine.Machine.{Machine}
 use Rattle.rv_replies.specs.declared.findings.verdict.AccountFinding.{AccountFinding}
 use Rattle.rv_replies.specs.declared.findings.verdict.AccountVerdict.TheVariants as verdict
-use Rattle.rv_state.specs.resume.Resuming.{CanResume}
+use Rattle.rv_account.specs.state.resume.Resuming.{CanResume}
 use Rattle.rv_verify.specs.Ongoing.{HasReadPart, kept_bytes}
 use Rattle.rv_verify.specs.Standing.{HoldsAccountOf}
 use Rattle.rv_verify.specs.Verdicts.{IsVerdictOn, ReadsLong}

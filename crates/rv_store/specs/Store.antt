@@ -1,8 +1,8 @@
 -- The present account of a store, as it is opened.
 use Rattle.std.specs.Prelude.{◌≡◌, ℕ, Some, true}
-use Rattle.rv_folder.specs.Folder.{Directory, GivenFile}
-use Rattle.rv_folder.specs.Present.{IsPresent}
-use Rattle.rv_folder.specs.declared.folder.FileName.TheVariants.{Account}
+use Rattle.rv_journal.specs.folders.Folder.{Directory, GivenFile}
+use Rattle.rv_journal.specs.folders.Present.{IsPresent}
+use Rattle.rv_journal.specs.declared.folders.folder.FileName.TheVariants.{Account}
 use Rattle.rv_journal.specs.Device.{Disk}
 use Rattle.rv_journal.specs.Faults.{IfRefused, open_failed}
 use Rattle.rv_journal.specs.Journal.{IsDurable, journal_text}

@@ -3,7 +3,7 @@ ghost use Rattle.std.specs.Prelude.{◌≡◌, ◌++◌, ℕ, List, None, false,
 ghost use Rattle.rv_store.specs.Format.{CutsFormat, IsFormatFault, first_text, format};
 
 use crate::reader::RecoveryFault;
-use rv_lines::{cut_at, head_line, read_identifier};
+use rv_book::lines::{cut_at, head_line, read_identifier};
 use rv_text::NoMemory;
 use std::alloc::Global;
 

@@ -8,9 +8,11 @@
 mod account_journal;
 mod entering;
 mod format;
+pub mod keeping;
 pub mod laws;
 mod opening;
 mod reader;
+pub mod servers;
 mod store;
 mod wish;
 

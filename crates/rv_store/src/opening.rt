@@ -6,7 +6,7 @@ ghost use Rattle.rv_journal.specs.Journal.{IsDurable, journal_text};
 ghost use Rattle.rv_journal.specs.Opened.{HasLines, HasLinesOf, IsLeftUnfilled, file_lines};
 ghost use Rattle.rv_journal.specs.declared.fault.OpenFault.TheVariants.{NotFilled};
 ghost use Rattle.rv_machine.specs.Machines.{state_in};
-ghost use Rattle.rv_state.specs.resume.Resuming.{CanResume};
+ghost use Rattle.rv_account.specs.state.resume.Resuming.{CanResume};
 ghost use Rattle.rv_store.specs.Lasting.{fault_of, journal_of};
 ghost use Rattle.rv_store.specs.Reading.{HoldsJournal, IsLeftAsRefused};
 

@@ -1,14 +1,14 @@
 //! A store: a folder with a journal for each epoch's account, of which the greatest epoch is the present one.
 ghost use Rattle.std.specs.Prelude.{◌≡◌, ◌<◌, ◌≤◌, ℕ, Err, IfOk, IfSome, None, Ok, OnOk, true};
-ghost use Rattle.rv_folder.specs.Begun.{IsAccountIn, KeepsOthers, LeavesBegun};
-ghost use Rattle.rv_folder.specs.Folder.{KeepsNames, FileNames, SameNames, WhereNamed};
-ghost use Rattle.rv_folder.specs.Present.{HasAccount, IsPresent};
-ghost use Rattle.rv_folder.specs.declared.beginning.BeginFault.TheVariants as OfBegin;
+ghost use Rattle.rv_journal.specs.folders.Begun.{IsAccountIn, KeepsOthers, LeavesBegun};
+ghost use Rattle.rv_journal.specs.folders.Folder.{KeepsNames, FileNames, SameNames, WhereNamed};
+ghost use Rattle.rv_journal.specs.folders.Present.{HasAccount, IsPresent};
+ghost use Rattle.rv_journal.specs.declared.folders.beginning.BeginFault.TheVariants as OfBegin;
 ghost use Rattle.rv_journal.specs.Journal.{IsDurable, journal_text};
 ghost use Rattle.rv_journal.specs.declared.device.DeviceFault.TheVariants.{Failed};
 ghost use Rattle.rv_journal.specs.declared.fault.OpenFault.{OpenFault};
 ghost use Rattle.rv_machine.specs.Machines.{state_in};
-ghost use Rattle.rv_state.specs.resume.Resuming.{CanResume};
+ghost use Rattle.rv_account.specs.state.resume.Resuming.{CanResume};
 ghost use Rattle.rv_store.specs.Entered.{IsStored};
 ghost use Rattle.rv_store.specs.Format.{first_text};
 ghost use Rattle.rv_store.specs.Lasting.{fault_of, journal_of};
@@ -20,7 +20,7 @@ use crate::account_journal::AccountJournal;
 use crate::format::first_line_of;
 use crate::opening::{StoredAccount, open_account};
 use crate::reader::RecoveryFault;
-use rv_folder::{BeginFault, FileName, Folder, begin_journal, present_epoch};
+use rv_journal::folders::{BeginFault, FileName, Folder, begin_journal, present_epoch};
 use rv_journal::{DeviceFault, OpenFault};
 use std::alloc::Global;
 

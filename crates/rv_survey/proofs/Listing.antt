@@ -4,8 +4,8 @@ use Rattle.std.proofs.Common.{length-append, List}
 use Rattle.std.proofs.Common.{refl, Some, subst, sym}
 use Rattle.std.specs.Prelude.{slice_get}
 use Rattle.std.proofs.lemmas.Bool.{cases_lt}
-use Rattle.rv_rules.proofs.Places.{get-append_end, get-append_within}
-use Rattle.rv_state.specs.State.{State}
+use Rattle.rv_account.proofs.OfRules.Places.{get-append_end, get-append_within}
+use Rattle.rv_account.specs.state.State.{State}
 use Rattle.rv_status.specs.declared.status.QueueRow.{QueueRow}
 use Rattle.rv_survey.specs.Queues.{AreQueues, row_of_queue}
 

@@ -3,3 +3,4 @@ pub mod Oldest
 pub mod Queues
 pub mod Rows
 pub mod Sights
+pub mod log

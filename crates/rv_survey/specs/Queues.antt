@@ -1,6 +1,6 @@
 -- What waits in each queue.
 use Rattle.std.specs.Prelude.{◌≡◌, ◌<◌, ℕ, List, Some, length, slice_get}
-use Rattle.rv_state.specs.State.{State, line}
+use Rattle.rv_account.specs.state.State.{State, line}
 use Rattle.rv_status.specs.declared.status.QueueRow.{QueueRow}
 use Rattle.rv_text.specs.declared.call.Side.TheVariants.{Gives, Takes}
 

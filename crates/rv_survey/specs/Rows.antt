@@ -3,7 +3,7 @@ use Rattle.std.specs.Prelude.{ℕ, None, Option, Some, option_and_then, option_m
 use Rattle.rv_session.specs.declared.open.OpenPlace.{OpenPlace}
 use Rattle.rv_session.specs.declared.open.Waiter.{Waiter}
 use Rattle.rv_session.specs.Clients.{place_awaited}
-use Rattle.rv_state.specs.State.{State, open_at}
+use Rattle.rv_account.specs.state.State.{State, open_at}
 use Rattle.rv_status.specs.declared.status.CallKind.{CallKind}
 use Rattle.rv_status.specs.declared.status.CallKind.TheVariants.{Swap, Take, Transfer}
 use Rattle.rv_status.specs.declared.status.WaitingRow.{WaitingRow}

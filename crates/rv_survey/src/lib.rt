@@ -10,6 +10,7 @@
 //! ```
 #![tactic(auto)]
 
+pub mod log;
 mod oldest;
 mod queues;
 mod rows;

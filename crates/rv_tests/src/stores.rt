@@ -1,9 +1,9 @@
 //! Tests of a store over a folder in memory: its epochs begin one after the other, and a file that is no
 //! account's is told as what it is.
 use crate::expect::{holds, same};
-use rv_folder::testing::MemoryFolder;
-use rv_folder::{BeginFault, FileName, Folder, present_epoch};
 use rv_frame::Lasting;
+use rv_journal::folders::testing::MemoryFolder;
+use rv_journal::folders::{BeginFault, FileName, Folder, present_epoch};
 use rv_journal::testing::Memory;
 use rv_journal::{Device, OpenFault};
 use rv_store::{AccountJournal, PresentFault, RecoveryFault, begin_account, open_present};

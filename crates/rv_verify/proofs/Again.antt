@@ -8,15 +8,15 @@ use Rattle.std.specs.List.{AllZip}
 use Rattle.std.proofs.lemmas.Bool.{cases_lt}
 use Rattle.rv_account.specs.declared.entry.Entry.{Entry}
 use Rattle.rv_account.specs.Account.{call_in}
-use Rattle.rv_rules.proofs.Places.{get-take, within}
+use Rattle.rv_account.proofs.OfRules.Places.{get-take, within}
 use Rattle.rv_text.specs.Calls.{side_of}
 use Rattle.rv_text.specs.declared.call.Call.{Call}
 use Rattle.rv_audit.specs.declared.rule.Rule.{Rule}
 use Rattle.rv_audit.specs.declared.rule.Rule.TheVariants.{P1}
-use Rattle.rv_lines.specs.Lines.{lines}
-use Rattle.rv_lines.specs.declared.fault.LineFault.{LineFault}
-use Rattle.rv_lines.proofs.Cutting.{lines_cut, lines_last}
-use Rattle.rv_lines.proofs.Entering.{entry_one}
+use Rattle.rv_book.specs.lines.Lines.{lines}
+use Rattle.rv_book.specs.declared.lines.fault.LineFault.{LineFault}
+use Rattle.rv_book.proofs.OfLines.Cutting.{lines_cut, lines_last}
+use Rattle.rv_book.proofs.OfLines.Entering.{entry_one}
 use Rattle.rv_text.specs.Members.{max_identifier}
 use Rattle.rv_verify.specs.Naming.{AreReadAs, BeginAlike, HaveMet, MeetsOne}
 use Rattle.rv_verify.specs.Naming.{rule_by_side}

@@ -7,9 +7,9 @@ use Rattle.rv_audit.specs.declared.outcome.Audit.{Audit}
 use Rattle.rv_audit.specs.declared.outcome.Audit.TheVariants as tells
 use Rattle.rv_audit.specs.declared.rule.Rule.{Rule}
 use Rattle.rv_audit.proofs.ByRules.{one_audit}
-use Rattle.rv_follow.specs.state_rules.Ruling.{IsOnNamed}
-use Rattle.rv_lines.specs.Reading.{ReadsAccount}
-use Rattle.rv_lines.proofs.OneReading.{account_one, read_has_no_bad}
+use Rattle.rv_verify.specs.follow.state_rules.Ruling.{IsOnNamed}
+use Rattle.rv_book.specs.lines.Reading.{ReadsAccount}
+use Rattle.rv_book.proofs.OfLines.OneReading.{account_one, read_has_no_bad}
 use Rattle.rv_account.specs.Limits.{FitEntries, max_moment}
 use Rattle.rv_verify.specs.Laws.{SayTheSame, VerdictsAgree}
 use Rattle.rv_verify.specs.Verdicts.{IsVerdictOn, ReadsLong, TellsBeyond, long_limits}

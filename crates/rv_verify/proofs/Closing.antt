@@ -2,8 +2,8 @@
 use Rattle.std.proofs.Common.{◌≡◌, ◌≢◌, ◌∷◌, ◌++◌, ◌∙◌, ℕ, List, [], Bool, true, false}
 use Rattle.std.proofs.Common.{Option, ap, append-nil, inl, inr, refl, subst, sym}
 use Rattle.rv_account.specs.declared.entry.Entry.{Entry}
-use Rattle.rv_lines.specs.Lines.{lines}
-use Rattle.rv_lines.proofs.Cutting.{Lacks}
+use Rattle.rv_book.specs.lines.Lines.{lines}
+use Rattle.rv_book.proofs.OfLines.Cutting.{Lacks}
 use Rattle.rv_replies.specs.declared.records.Records.{Records}
 use Rattle.rv_verify.specs.Ends.{AreWholeLines, EndsWithPiece, HoldsOfLines, IsTornBehind, IsTornWith}
 use Rattle.rv_verify.specs.Ends.{IsWholeWith}

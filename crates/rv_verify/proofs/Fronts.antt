@@ -5,9 +5,9 @@ use Rattle.std.proofs.lemmas.Bool.{cases_lt}
 use Rattle.std.proofs.lemmas.List.{take-take}
 use Rattle.rv_account.specs.declared.entry.Entry.{Entry}
 use Rattle.rv_account.specs.Account.{Account}
-use Rattle.rv_rules.specs.Legal.{Legal, before}
-use Rattle.rv_rules.proofs.Fronts.{Legal-before}
-use Rattle.rv_rules.proofs.Places.{get-take, within}
+use Rattle.rv_account.specs.rules.Legal.{Legal, before}
+use Rattle.rv_account.proofs.OfRules.Fronts.{Legal-before}
+use Rattle.rv_account.proofs.OfRules.Places.{get-take, within}
 use Rattle.rv_audit.specs.AccountRules.{BreaksBehind}
 use Rattle.rv_audit.specs.Faults.{Breaks, FirstFault, KeepsRules}
 use Rattle.rv_audit.specs.declared.outcome.Audit.TheVariants as tells

@@ -2,8 +2,8 @@
 use Rattle.std.proofs.Common.{◌≡◌, ◌≢◌, ◌∷◌, ◌++◌, ◌∙◌, ◌==◌, ℕ, List, [], cond, true, false}
 use Rattle.std.proofs.Common.{append-nil, append_assoc, ap, inl, inr, refl, subst, sym}
 use Rattle.std.specs.List.{onto_first}
-use Rattle.rv_lines.specs.Lines.{lines}
-use Rattle.rv_lines.proofs.Cutting.{Lacks, lines_cut, lines_last}
+use Rattle.rv_book.specs.lines.Lines.{lines}
+use Rattle.rv_book.proofs.OfLines.Cutting.{Lacks, lines_cut, lines_last}
 use Rattle.rv_verify.specs.Ends.{AreWholeLines}
 use Rattle.rv_verify.specs.Reading.{IsPiece}
 

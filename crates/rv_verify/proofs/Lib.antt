@@ -18,3 +18,4 @@ pub mod Recorded
 -- The lemma that a proof of this crate cites.
 pub mod Told
 mod WholeEnds
+pub mod OfFollow

@@ -7,14 +7,14 @@ use Rattle.std.proofs.lemmas.List.{take_all, take-take}
 use Rattle.rv_account.specs.declared.entry.Entry.{Entry}
 use Rattle.rv_account.specs.Account.{Account, with_entry}
 use Rattle.rv_audit.specs.declared.outcome.Audit.TheVariants as tells
-use Rattle.rv_lines.proofs.OneReading.{account_one, front_of_front, front_read, front_read_as}
-use Rattle.rv_lines.proofs.Turns.{so_many_lines}
-use Rattle.rv_state.specs.resume.Laws.{HadRoom}
-use Rattle.rv_state.specs.resume.Resuming.{StaysInRoom}
-use Rattle.rv_rules.specs.Legal.{Legal, before}
-use Rattle.rv_rules.proofs.Fronts.{Legal-before}
-use Rattle.rv_state.specs.After.{state_of}
-use Rattle.rv_state.proofs.Agreed.{state_pushed}
+use Rattle.rv_book.proofs.OfLines.OneReading.{account_one, front_of_front, front_read, front_read_as}
+use Rattle.rv_book.proofs.OfLines.Turns.{so_many_lines}
+use Rattle.rv_account.specs.state.resume.Laws.{HadRoom}
+use Rattle.rv_account.specs.state.resume.Resuming.{StaysInRoom}
+use Rattle.rv_account.specs.rules.Legal.{Legal, before}
+use Rattle.rv_account.proofs.OfRules.Fronts.{Legal-before}
+use Rattle.rv_account.specs.state.After.{state_of}
+use Rattle.rv_account.proofs.OfState.Agreed.{state_pushed}
 use Rattle.rv_verify.specs.Laws.{LegalIsNoted}
 use Rattle.rv_verify.specs.Noting.{IsLongestLegal}
 use Rattle.rv_verify.specs.Reading.{IsBadAt}

@@ -7,16 +7,16 @@ use Rattle.rv_text.specs.declared.call.Side.TheVariants.{Exchanges, Gives, Looks
 use Rattle.rv_text.specs.Calls.{side_of}
 use Rattle.rv_account.specs.declared.entry.Entry.{Entry}
 use Rattle.rv_account.specs.Account.{Account, call_in}
-use Rattle.rv_rules.specs.Legal.{Legal, before}
-use Rattle.rv_state.specs.After.{state_of}
-use Rattle.rv_state.specs.Kept.{NamesWell}
-use Rattle.rv_state.proofs.Agreed.{agreed}
+use Rattle.rv_account.specs.rules.Legal.{Legal, before}
+use Rattle.rv_account.specs.state.After.{state_of}
+use Rattle.rv_account.specs.state.Kept.{NamesWell}
+use Rattle.rv_account.proofs.OfState.Agreed.{agreed}
 use Rattle.rv_audit.specs.AccountRules.{BreaksBehind, NamesTaken, NamesWrongly}
 use Rattle.rv_audit.specs.Faults.{Breaks, FirstFault, IsToldOf}
 use Rattle.rv_audit.specs.AccountRules.{IsPaired, IsSwapped}
 use Rattle.rv_audit.specs.declared.rule.Rule.{Rule}
 use Rattle.rv_audit.specs.declared.rule.Rule.TheVariants.{M1, M2, M3, N1, N2, N3, P1, P2, P3, P4, S1, S2}
-use Rattle.rv_follow.specs.state_rules.Ruling.{IsOnNamed, NamesClosed}
+use Rattle.rv_verify.specs.follow.state_rules.Ruling.{IsOnNamed, NamesClosed}
 use Rattle.rv_verify.specs.Naming.{HaveMet, rule_by_side}
 use Rattle.rv_verify.specs.Verdicts.{AuditTells}
 

@@ -6,15 +6,15 @@ use Rattle.rv_account.specs.Account.{Account}
 use Rattle.rv_account.specs.Limits.{max_moment}
 use Rattle.rv_account.specs.declared.entry.Entry.{Entry}
 use Rattle.rv_machine.specs.Machines.{state_in}
-use Rattle.rv_state.specs.resume.Resuming.{CanResume, StaysInRoom}
-use Rattle.rv_state.proofs.Resumed.ResumeLaws.{openings_resume}
-use Rattle.rv_rules.specs.Legal.{Legal}
-use Rattle.rv_rules.specs.Steps.{capped_moment}
-use Rattle.rv_rules.proofs.Words.{none-some}
-use Rattle.rv_state.specs.After.{state_of}
-use Rattle.rv_state.specs.State.{opening}
+use Rattle.rv_account.specs.state.resume.Resuming.{CanResume, StaysInRoom}
+use Rattle.rv_account.proofs.OfState.Resumed.ResumeLaws.{openings_resume}
+use Rattle.rv_account.specs.rules.Legal.{Legal}
+use Rattle.rv_account.specs.rules.Steps.{capped_moment}
+use Rattle.rv_account.proofs.OfRules.Words.{none-some}
+use Rattle.rv_account.specs.state.After.{state_of}
+use Rattle.rv_account.specs.state.State.{opening}
 use Rattle.rv_text.specs.Limits.{FitsIdentifier}
-use Rattle.rv_lines.specs.Reading.{ReadsHead}
+use Rattle.rv_book.specs.lines.Reading.{ReadsHead}
 use Rattle.rv_replies.specs.declared.records.Records.{Records}
 use Rattle.rv_verify.specs.Stages.{AreNew, HasReadNoting}
 use Rattle.rv_verify.specs.Standing.{CanReadOn, StandsAt}

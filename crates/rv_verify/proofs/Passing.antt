@@ -10,22 +10,22 @@ use Rattle.rv_account.specs.declared.entry.Act.TheVariants.{Arrive, Cancel, Hell
 use Rattle.rv_account.specs.declared.entry.Entry.{Entry}
 use Rattle.rv_account.specs.Account.{Account, with_entry}
 use Rattle.rv_account.specs.Limits.{FitsAct, FitsEntry}
-use Rattle.rv_rules.proofs.Places.{get-append_cases}
-use Rattle.rv_state.specs.After.{following, state_after, state_of}
-use Rattle.rv_state.specs.Follows.{FollowsState}
-use Rattle.rv_state.proofs.Agreed.{state_pushed}
-use Rattle.rv_state.specs.resume.Laws.{HadRoom}
-use Rattle.rv_state.specs.resume.Resuming.{StaysInRoom}
+use Rattle.rv_account.proofs.OfRules.Places.{get-append_cases}
+use Rattle.rv_account.specs.state.After.{following, state_after, state_of}
+use Rattle.rv_account.specs.state.Follows.{FollowsState}
+use Rattle.rv_account.proofs.OfState.Agreed.{state_pushed}
+use Rattle.rv_account.specs.state.resume.Laws.{HadRoom}
+use Rattle.rv_account.specs.state.resume.Resuming.{StaysInRoom}
 use Rattle.rv_machine.specs.Machines.{keys_settled, state_in}
 use Rattle.rv_machine.specs.declared.machine.Machine.{Machine}
-use Rattle.rv_follow.specs.Outcomes.{HasFollowed}
-use Rattle.rv_follow.proofs.OfAsked.RuleLaws.{follows_legally}
-use Rattle.rv_lines.specs.Reading.{SaysAct}
-use Rattle.rv_lines.proofs.Turns.{account_more}
+use Rattle.rv_verify.specs.follow.Outcomes.{HasFollowed}
+use Rattle.rv_verify.proofs.OfFollow.OfAsked.RuleLaws.{follows_legally}
+use Rattle.rv_book.specs.lines.Reading.{SaysAct}
+use Rattle.rv_book.proofs.OfLines.Turns.{account_more}
 use Rattle.rv_replies.specs.Known.{HasPassedBy}
 use Rattle.rv_replies.specs.Standing.{HasNoted}
 use Rattle.rv_replies.specs.declared.records.Records.{Records}
-use Rattle.rv_state.specs.State.{State}
+use Rattle.rv_account.specs.state.State.{State}
 use Rattle.rv_verify.specs.Reading.{FollowsUnlessStopped, IsStopped, NotesOneMore, NotesUnlessStopped}
 use Rattle.rv_verify.specs.Reading.{ReadsOneMore}
 use Rattle.rv_verify.specs.Stages.{HasReadNoting}

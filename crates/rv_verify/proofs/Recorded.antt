@@ -3,8 +3,8 @@ use Rattle.std.proofs.Common.{◌≡◌, ◌∷◌, ◌++◌, ◌∙◌, ℕ, Li
 use Rattle.std.proofs.Common.{refl}
 use Rattle.std.proofs.Common.{subst, sym}
 use Rattle.std.specs.List.{AllZip}
-use Rattle.rv_lines.specs.Lines.{lines}
-use Rattle.rv_lines.proofs.Cutting.{lines_cut}
+use Rattle.rv_book.specs.lines.Lines.{lines}
+use Rattle.rv_book.proofs.OfLines.Cutting.{lines_cut}
 use Rattle.rv_replies.specs.Standing.{AddsLine, IsRecordLine}
 use Rattle.rv_replies.specs.declared.records.Line.{Line}
 use Rattle.rv_replies.specs.declared.records.Records.{Records}

@@ -6,8 +6,8 @@ use Rattle.std.proofs.Common.{refl, subst, sym, take}
 use Rattle.std.proofs.lemmas.Bool.{cases_lt}
 use Rattle.std.proofs.lemmas.List.Elements.{All-nil}
 use Rattle.std.proofs.lemmas.List.{take_all, take-append-le}
-use Rattle.rv_lines.specs.Lines.{lines}
-use Rattle.rv_lines.proofs.Cutting.{Lacks}
+use Rattle.rv_book.specs.lines.Lines.{lines}
+use Rattle.rv_book.proofs.OfLines.Cutting.{Lacks}
 use Rattle.rv_replies.specs.declared.records.Records.{Records}
 use Rattle.rv_verify.specs.Ongoing.{HadNoFault, HasGoneOn, HasReadPart, HasRun}
 use Rattle.rv_verify.specs.Reading.{HasNextPart}

@@ -12,21 +12,21 @@ use Rattle.rv_account.specs.Limits.{FitEntries, FitsEntry, max_moment}
 use Rattle.rv_account.specs.declared.entry.Act.{Act}
 use Rattle.rv_account.specs.declared.entry.Act.TheVariants.{Arrive, Cancel, Hello, Tick}
 use Rattle.rv_account.specs.declared.entry.Entry.{Entry}
-use Rattle.rv_lines.specs.Reading.{ReadsAccount, ReadsEntry}
-use Rattle.rv_rules.specs.Legal.{Legal, before}
-use Rattle.rv_rules.specs.Waiting.{Open}
-use Rattle.rv_rules.proofs.Counting.{number_below}
-use Rattle.rv_rules.proofs.Fronts.{Legal-before, read_whole}
-use Rattle.rv_rules.proofs.Growing.{call_read, reads_within}
-use Rattle.rv_state.specs.After.{acted, state_after, state_of}
-use Rattle.rv_state.specs.State.{ClientState, OpenPlace, State, opening, waiting_count}
-use Rattle.rv_state.proofs.Agreed.{agreed}
-use Rattle.rv_state.proofs.Counted.{open_number}
-use Rattle.rv_state.proofs.Filtered.{mapped_there}
-use Rattle.rv_state.proofs.Words.{same_Some}
-use Rattle.rv_state.specs.resume.Resuming.{StaysInRoom}
-use Rattle.rv_state.proofs.Resumed.Alone.{filter_short}
-use Rattle.rv_state.proofs.Resumed.Counts.{arrived_len, cancelled_len, greeted_len, ticked_len}
+use Rattle.rv_book.specs.lines.Reading.{ReadsAccount, ReadsEntry}
+use Rattle.rv_account.specs.rules.Legal.{Legal, before}
+use Rattle.rv_account.specs.rules.Waiting.{Open}
+use Rattle.rv_account.proofs.OfRules.Counting.{number_below}
+use Rattle.rv_account.proofs.OfRules.Fronts.{Legal-before, read_whole}
+use Rattle.rv_account.proofs.OfRules.Growing.{call_read, reads_within}
+use Rattle.rv_account.specs.state.After.{acted, state_after, state_of}
+use Rattle.rv_account.specs.state.State.{ClientState, OpenPlace, State, opening, waiting_count}
+use Rattle.rv_account.proofs.OfState.Agreed.{agreed}
+use Rattle.rv_account.proofs.OfState.Counted.{open_number}
+use Rattle.rv_account.proofs.OfState.Filtered.{mapped_there}
+use Rattle.rv_account.proofs.OfState.Words.{same_Some}
+use Rattle.rv_account.specs.state.resume.Resuming.{StaysInRoom}
+use Rattle.rv_account.proofs.OfState.Resumed.Alone.{filter_short}
+use Rattle.rv_account.proofs.OfState.Resumed.Counts.{arrived_len, cancelled_len, greeted_len, ticked_len}
 use Rattle.rv_verify.specs.Laws.{LegalHadRoom}
 use Rattle.rv_verify.specs.Verdicts.{ReadsLongEntry}
 use Rattle.rv_verify.proofs.Passing.{entry_fits}

@@ -4,13 +4,13 @@ use Rattle.std.proofs.Common.{ap, arith, false, is_some, IsSome, length, length-
 use Rattle.std.proofs.Common.{take}
 use Rattle.std.proofs.lemmas.List.{take_all, take-append-le}
 use Rattle.rv_account.specs.Account.{Account}
-use Rattle.rv_lines.specs.Entries.{IsNoNext}
-use Rattle.rv_lines.specs.Reading.{ReadsHead}
-use Rattle.rv_lines.proofs.OneReading.{front_of_front, front_read}
-use Rattle.rv_lines.proofs.Turns.{bad_head, bad_kept, bad_next, bad_none, so_many_lines}
+use Rattle.rv_book.specs.lines.Entries.{IsNoNext}
+use Rattle.rv_book.specs.lines.Reading.{ReadsHead}
+use Rattle.rv_book.proofs.OfLines.OneReading.{front_of_front, front_read}
+use Rattle.rv_book.proofs.OfLines.Turns.{bad_head, bad_kept, bad_next, bad_none, so_many_lines}
 use Rattle.rv_machine.specs.Machines.{state_in}
 use Rattle.rv_replies.specs.declared.records.Records.{Records}
-use Rattle.rv_state.proofs.Agreed.{agreed}
+use Rattle.rv_account.proofs.OfState.Agreed.{agreed}
 use Rattle.rv_verify.specs.Noting.{HasNotedOf, NotesLongest}
 use Rattle.rv_verify.specs.Reading.{IsBadAt}
 use Rattle.rv_verify.specs.Stages.{AreNew, HasReadNoting, StandsBehind, epoch_of}

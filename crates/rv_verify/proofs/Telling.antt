@@ -4,15 +4,15 @@ use Rattle.std.proofs.Common.{length, take, refl, sym, ap, subst, arith, slice_g
 use Rattle.std.proofs.Math.Seq.{take-append-add, take-append_seam}
 use Rattle.rv_account.specs.declared.entry.Entry.{Entry}
 use Rattle.rv_account.specs.Account.{Account, with_entry}
-use Rattle.rv_rules.specs.Legal.{Legal, before}
-use Rattle.rv_state.specs.After.{state_of}
-use Rattle.rv_state.proofs.Agreed.{agreed, state_pushed}
-use Rattle.rv_state.specs.resume.Laws.{HadRoom}
-use Rattle.rv_state.specs.resume.Resuming.{StaysInRoom}
+use Rattle.rv_account.specs.rules.Legal.{Legal, before}
+use Rattle.rv_account.specs.state.After.{state_of}
+use Rattle.rv_account.proofs.OfState.Agreed.{agreed, state_pushed}
+use Rattle.rv_account.specs.state.resume.Laws.{HadRoom}
+use Rattle.rv_account.specs.state.resume.Resuming.{StaysInRoom}
 use Rattle.rv_machine.specs.Machines.{state_in}
 use Rattle.rv_audit.specs.declared.rule.Rule.{Rule}
-use Rattle.rv_follow.specs.state_rules.Ruling.{IsFirstBroken, IsOnNamed, NamesClosed}
-use Rattle.rv_follow.proofs.OfAsked.RuleLaws.{closed_breaks, follows_legally, rules_break}
+use Rattle.rv_verify.specs.follow.state_rules.Ruling.{IsFirstBroken, IsOnNamed, NamesClosed}
+use Rattle.rv_verify.proofs.OfFollow.OfAsked.RuleLaws.{closed_breaks, follows_legally, rules_break}
 use Rattle.rv_verify.specs.Standing.{HasRead, StandsAt, StopsBehind, verdict_by}
 use Rattle.rv_verify.specs.Verdicts.{AuditTells, IsVerdictOn, ReadsLong, TellsFaultOf}
 use Rattle.rv_replies.specs.declared.findings.verdict.AccountVerdict.{AccountVerdict}

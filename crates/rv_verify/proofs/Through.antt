@@ -6,8 +6,8 @@ use Rattle.std.specs.Io.BufRead.{drop_through, take_through}
 use Rattle.std.proofs.lemmas.Bool.{cases_order}
 use Rattle.std.proofs.lemmas.List.{same_from_push}
 use Rattle.std.proofs.lemmas.List.Elements.{All-cons, All-nil}
-use Rattle.rv_lines.proofs.Cutting.{Lacks, not_lacking}
-use Rattle.rv_lines.proofs.OneLine.{line_append}
+use Rattle.rv_book.proofs.OfLines.Cutting.{Lacks, not_lacking}
+use Rattle.rv_book.proofs.OfLines.OneLine.{line_append}
 use Rattle.rv_verify.specs.Reading.{IsNext}
 use Rattle.rv_verify.specs.declared.parts.NextPart.TheVariants as next
 

@@ -2,7 +2,7 @@
 use Rattle.std.proofs.Common.{◌∷◌, ℕ, List, [], arith}
 use Rattle.std.specs.List.{AllZip}
 use Rattle.rv_account.specs.declared.entry.Entry.{Entry}
-use Rattle.rv_lines.specs.Reading.{ReadsEntry, SaysPartnersUpTo, SaysPlacesUpTo}
+use Rattle.rv_book.specs.lines.Reading.{ReadsEntry, SaysPartnersUpTo, SaysPlacesUpTo}
 use Rattle.rv_text.specs.Members.{max_identifier}
 use Rattle.rv_verify.specs.Verdicts.{ReadsLongEntry}
 

@@ -2,7 +2,7 @@
 use Rattle.std.specs.Prelude.{◌≡◌, ◌≢◌, ◌⊎◌, ◌∷◌, ◌++◌, [], true, false, Bool, ℕ, List}
 use Rattle.std.specs.List.{All}
 use Rattle.rv_account.specs.declared.entry.Entry.{Entry}
-use Rattle.rv_lines.specs.Lines.{lines}
+use Rattle.rv_book.specs.lines.Lines.{lines}
 use Rattle.rv_verify.specs.Verdicts.{IsVerdictOn, ReadsLongEntry}
 use Rattle.rv_replies.specs.declared.findings.verdict.AccountFinding.{AccountFinding}
 

@@ -4,10 +4,10 @@ use Rattle.rv_account.specs.Account.{Account}
 use Rattle.rv_audit.specs.Faults.{IsToldOf}
 use Rattle.rv_audit.specs.declared.outcome.Audit.{Audit}
 use Rattle.rv_audit.specs.declared.outcome.Audit.TheVariants as tells
-use Rattle.rv_follow.specs.state_rules.Ruling.{IsOnNamed}
-use Rattle.rv_lines.specs.Reading.{ReadsAccount}
-use Rattle.rv_state.specs.resume.Laws.{HadRoom}
-use Rattle.rv_rules.specs.Legal.{Legal}
+use Rattle.rv_verify.specs.follow.state_rules.Ruling.{IsOnNamed}
+use Rattle.rv_book.specs.lines.Reading.{ReadsAccount}
+use Rattle.rv_account.specs.state.resume.Laws.{HadRoom}
+use Rattle.rv_account.specs.rules.Legal.{Legal}
 use Rattle.rv_verify.specs.Noting.{IsLongestLegal}
 use Rattle.rv_verify.specs.Verdicts.{IsVerdictOn, ReadsLong}
 use Rattle.rv_replies.specs.declared.findings.verdict.AccountVerdict.{AccountVerdict}

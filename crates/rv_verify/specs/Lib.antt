@@ -10,3 +10,4 @@ pub mod Laws
 pub mod Naming
 -- What only private clauses and proofs cite.
 pub mod Reading
+pub mod follow

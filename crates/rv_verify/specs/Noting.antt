@@ -3,8 +3,8 @@ use Rattle.std.specs.Prelude.{◌≡◌, ◌<◌, ◌≤◌, ℕ, List, Option, 
 use Rattle.rv_account.specs.Account.{Account}
 use Rattle.rv_replies.specs.Standing.{HasNoted}
 use Rattle.rv_replies.specs.declared.records.Records.{Records}
-use Rattle.rv_state.specs.resume.Laws.{HadRoom}
-use Rattle.rv_rules.specs.Legal.{Legal}
+use Rattle.rv_account.specs.state.resume.Laws.{HadRoom}
+use Rattle.rv_account.specs.rules.Legal.{Legal}
 use Rattle.rv_verify.specs.Ends.{HoldsOfLines}
 use Rattle.rv_verify.specs.Verdicts.{ReadsLong}
 use Rattle.rv_replies.specs.declared.findings.verdict.AccountFinding.{AccountFinding}

@@ -2,7 +2,7 @@
 use Rattle.std.specs.Prelude.{◌≡◌, ◌≢◌, ◌↔◌, ◌<◌, ◌≤◌, ◌-◌, ◌++◌, [], ℕ, IsTrue, List, Option, Some, length}
 use Rattle.std.specs.Prelude.{take}
 use Rattle.std.specs.List.{All}
-use Rattle.rv_lines.specs.Lines.{lines}
+use Rattle.rv_book.specs.lines.Lines.{lines}
 use Rattle.rv_replies.specs.declared.records.Records.{Records}
 use Rattle.rv_verify.specs.Ends.{AreWholeLines, IsToldOfBytes}
 use Rattle.rv_verify.specs.Noting.{HasNotedOf, IsNotedOfBytes}

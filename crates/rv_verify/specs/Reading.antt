@@ -8,8 +8,8 @@ use Rattle.rv_replies.specs.Known.{HasPassedBy}
 use Rattle.rv_replies.specs.Standing.{HasNoted}
 use Rattle.rv_replies.specs.declared.records.Records.{Records}
 use Rattle.rv_machine.specs.declared.machine.Machine.{Machine}
-use Rattle.rv_follow.specs.Outcomes.{HasBroken, HasFollowed, PassesRoom}
-use Rattle.rv_follow.specs.state_rules.Ruling.{IsFirstBroken, NamesClosed}
+use Rattle.rv_verify.specs.follow.Outcomes.{HasBroken, HasFollowed, PassesRoom}
+use Rattle.rv_verify.specs.follow.state_rules.Ruling.{IsFirstBroken, NamesClosed}
 use Rattle.rv_verify.specs.Verdicts.{FirstBadLong, ReadsLongEntry}
 use Rattle.rv_verify.specs.declared.parts.NextPart.{NextPart}
 use Rattle.rv_verify.specs.declared.parts.NextPart.TheVariants as next

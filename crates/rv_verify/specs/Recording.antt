@@ -1,7 +1,7 @@
 -- Which record of replies the lines of an input are.
 use Rattle.std.specs.Prelude.{ℕ, List}
 use Rattle.std.specs.List.{AllZip}
-use Rattle.rv_lines.specs.Lines.{lines}
+use Rattle.rv_book.specs.lines.Lines.{lines}
 use Rattle.rv_replies.specs.Standing.{IsRecordLine}
 use Rattle.rv_replies.specs.declared.records.Records.{Records}
 use Rattle.rv_verify.specs.Stages.{AreNew}

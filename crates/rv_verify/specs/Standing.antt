@@ -4,15 +4,15 @@ use Rattle.std.specs.Prelude.{◌≡◌, ◌≤◌, ◌∷◌, ◌++◌, ℕ, Li
 use Rattle.rv_text.specs.Members.{max_identifier}
 use Rattle.rv_account.specs.Account.{Account}
 use Rattle.rv_account.specs.declared.entry.Entry.{Entry}
-use Rattle.rv_rules.specs.Legal.{Legal}
-use Rattle.rv_state.specs.After.{state_of}
-use Rattle.rv_state.specs.State.{State}
-use Rattle.rv_state.specs.resume.Laws.{HadRoom}
-use Rattle.rv_state.specs.resume.Resuming.{CanResume}
+use Rattle.rv_account.specs.rules.Legal.{Legal}
+use Rattle.rv_account.specs.state.After.{state_of}
+use Rattle.rv_account.specs.state.State.{State}
+use Rattle.rv_account.specs.state.resume.Laws.{HadRoom}
+use Rattle.rv_account.specs.state.resume.Resuming.{CanResume}
 use Rattle.rv_machine.specs.Machines.{state_in}
 use Rattle.rv_machine.specs.declared.machine.Machine.{Machine}
-use Rattle.rv_follow.specs.Outcomes.{PassesRoom}
-use Rattle.rv_follow.specs.state_rules.Ruling.{IsFirstBroken, NamesClosed}
+use Rattle.rv_verify.specs.follow.Outcomes.{PassesRoom}
+use Rattle.rv_verify.specs.follow.state_rules.Ruling.{IsFirstBroken, NamesClosed}
 use Rattle.rv_replies.specs.declared.findings.verdict.AccountVerdict.{AccountVerdict}
 use Rattle.rv_replies.specs.declared.findings.verdict.AccountVerdict.TheVariants as verdict
 use Rattle.rv_verify.specs.Verdicts.{ReadsLong}

@@ -7,16 +7,16 @@ use Rattle.std.specs.Prelude.{◌≡◌, ◌<◌, ◌+◌, ℕ, List, Some, leng
 use Rattle.rv_text.specs.Members.{max_identifier}
 use Rattle.rv_account.specs.Account.{Account}
 use Rattle.rv_account.specs.declared.entry.Entry.{Entry}
-use Rattle.rv_rules.specs.Legal.{Legal, before}
-use Rattle.rv_state.specs.After.{state_of}
-use Rattle.rv_state.specs.resume.Laws.{HadRoom}
-use Rattle.rv_state.specs.resume.Resuming.{StaysInRoom}
+use Rattle.rv_account.specs.rules.Legal.{Legal, before}
+use Rattle.rv_account.specs.state.After.{state_of}
+use Rattle.rv_account.specs.state.resume.Laws.{HadRoom}
+use Rattle.rv_account.specs.state.resume.Resuming.{StaysInRoom}
 use Rattle.rv_audit.specs.Faults.{IsToldOf}
 use Rattle.rv_audit.specs.declared.outcome.Audit.{Audit}
 use Rattle.rv_audit.specs.declared.outcome.Audit.TheVariants as tells
 use Rattle.rv_audit.specs.declared.rule.Rule.{Rule}
-use Rattle.rv_follow.specs.state_rules.Ruling.{IsOnNamed, NamesClosed}
-use Rattle.rv_lines.specs.Reading.{FirstBadLineUnder, LineLimits, ReadsAccountUnder, ReadsEntryUpTo}
+use Rattle.rv_verify.specs.follow.state_rules.Ruling.{IsOnNamed, NamesClosed}
+use Rattle.rv_book.specs.lines.Reading.{FirstBadLineUnder, LineLimits, ReadsAccountUnder, ReadsEntryUpTo}
 use Rattle.rv_replies.specs.declared.findings.verdict.AccountVerdict.{AccountVerdict}
 use Rattle.rv_replies.specs.declared.findings.verdict.AccountVerdict.TheVariants as verdict
 

@@ -1,5 +1,5 @@
 //! Why an account isn't read to its end.
-use rv_lines::LineFault;
+use rv_book::lines::LineFault;
 use rv_replies::OutOfMemory;
 use rv_text::NoMemory;
 use std::io;

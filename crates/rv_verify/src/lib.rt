@@ -16,6 +16,7 @@
 #![tactic(auto)]
 
 mod fault;
+pub mod follow;
 pub mod laws;
 mod looks;
 mod naming;

@@ -3,7 +3,7 @@ ghost use Rattle.std.specs.Prelude.{◌≡◌, ◌<◌, ◌⊎◌, ℕ, List, Ok
 ghost use Rattle.rv_account.specs.Account.{Among, call_in};
 ghost use Rattle.rv_account.specs.declared.entry.Entry as entries;
 ghost use Rattle.rv_audit.specs.declared.rule.Rule.TheVariants.{P1};
-ghost use Rattle.rv_lines.specs.Lines.{lines};
+ghost use Rattle.rv_book.specs.lines.Lines.{lines};
 ghost use Rattle.rv_text.specs.Calls.{side_of};
 ghost use Rattle.rv_text.specs.declared.call.Call as calls;
 ghost use Rattle.rv_verify.specs.Naming.{AreReadAs, BeginAlike, HasMet, IsRuleAt, MeetsOne, rule_by_side};
@@ -13,7 +13,7 @@ use crate::fault::VerifyFault;
 use crate::parts::{NextPart, next_line};
 use rv_account::{Act, Entry, Place};
 use rv_audit::Rule;
-use rv_lines::{LineFault, read_entry};
+use rv_book::lines::{LineFault, read_entry};
 use rv_text::{MAX_IDENTIFIER, Side};
 use std::alloc::Global;
 use std::io::BufRead;

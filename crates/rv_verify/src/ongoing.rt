@@ -2,7 +2,7 @@
 ghost use Rattle.std.specs.Prelude.{◌≡◌, ◌≢◌, ◌↔◌, ◌∷◌, ◌++◌, [], ℕ, List, Some, IfErr, IfOk, IsTrue, OnOk};
 ghost use Rattle.rv_replies.specs.declared.findings.verdict.AccountVerdict.TheVariants as verdict;
 ghost use Rattle.rv_replies.specs.declared.records.Records as records;
-ghost use Rattle.rv_lines.specs.Lines.{lines};
+ghost use Rattle.rv_book.specs.lines.Lines.{lines};
 ghost use Rattle.rv_verify.specs.Ends.{AreWholeLines};
 ghost use Rattle.rv_verify.specs.Noting.{HasNotedOf};
 ghost use Rattle.rv_verify.specs.Verdicts.{IsVerdictOn};
@@ -11,7 +11,7 @@ ghost use Rattle.rv_verify.specs.Ongoing.{IsFoundOfLines};
 ghost use Rattle.rv_verify.specs.Stages.{AreNew, HasFault, HasReadLines, entries_of};
 ghost use Rattle.rv_verify.specs.Standing.{HoldsAccountOf};
 ghost use Rattle.rv_machine.specs.Machines.{state_in};
-ghost use Rattle.rv_state.specs.resume.Resuming.{CanResume};
+ghost use Rattle.rv_account.specs.state.resume.Resuming.{CanResume};
 
 use crate::fault::VerifyFault;
 use crate::parts::{NextPart, more_of_line};

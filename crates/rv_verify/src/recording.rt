@@ -1,7 +1,7 @@
 //! Reads a record of replies.
 ghost use Rattle.std.specs.Prelude.{◌≡◌, [], ℕ, List, Some, IfOk, IfSome, OnOk};
 ghost use Rattle.std.specs.List.{AllZip};
-ghost use Rattle.rv_lines.specs.Lines.{lines};
+ghost use Rattle.rv_book.specs.lines.Lines.{lines};
 ghost use Rattle.rv_replies.specs.Standing.{IsRecordLine};
 ghost use Rattle.rv_verify.specs.Recording.{IsRecordOf};
 ghost use Rattle.rv_verify.specs.Stages.{AreNew};

@@ -8,12 +8,12 @@ ghost use Rattle.rv_verify.specs.Stages.{AreNew, CanTakeLine, HasFault, HasReadL
 ghost use Rattle.rv_verify.specs.Stages.{IsAtHead, StandsBehind, entries_of, epoch_of};
 ghost use Rattle.rv_verify.specs.Standing.{CanReadOn, HoldsAccountOf};
 ghost use Rattle.rv_machine.specs.Machines.{state_in};
-ghost use Rattle.rv_state.specs.resume.Resuming.{CanResume};
+ghost use Rattle.rv_account.specs.state.resume.Resuming.{CanResume};
 ghost use Rattle.rv_verify.specs.Verdicts.{IsVerdictOn};
 
 use crate::fault::VerifyFault;
 use crate::verifier::Verifier;
-use rv_lines::{LineFault, read_head};
+use rv_book::lines::{LineFault, read_head};
 use rv_machine::Machine;
 use rv_replies::Records;
 use rv_replies::findings::AccountVerdict;

@@ -2,10 +2,10 @@
 ghost use Rattle.std.specs.Prelude.{◌≡◌, Ok, Err, IfErr, IsOk, true, false};
 ghost use Rattle.rv_text.specs.Members.{max_identifier};
 ghost use Rattle.rv_account.specs.declared.entry.Entry as entries;
-ghost use Rattle.rv_lines.specs.Reading.{ReadsEntryUpTo};
+ghost use Rattle.rv_book.specs.lines.Reading.{ReadsEntryUpTo};
 
 use rv_account::Entry;
-use rv_lines::{LineFault, read_entry};
+use rv_book::lines::{LineFault, read_entry};
 use rv_text::MAX_IDENTIFIER;
 use std::alloc::Global;
 

@@ -7,9 +7,9 @@ ghost use Rattle.rv_account.specs.Limits.{max_moment};
 ghost use Rattle.rv_account.specs.declared.entry.Entry as entries;
 ghost use Rattle.rv_replies.specs.declared.findings.verdict.AccountVerdict.TheVariants as verdict;
 ghost use Rattle.rv_machine.specs.Machines.{state_in};
-ghost use Rattle.rv_state.specs.resume.Resuming.{CanResume};
-ghost use Rattle.rv_lines.specs.Entries.{IsNoNext};
-ghost use Rattle.rv_lines.specs.Reading.{ReadsHead};
+ghost use Rattle.rv_account.specs.state.resume.Resuming.{CanResume};
+ghost use Rattle.rv_book.specs.lines.Entries.{IsNoNext};
+ghost use Rattle.rv_book.specs.lines.Reading.{ReadsHead};
 ghost use Rattle.rv_verify.specs.Verdicts.{IsVerdictOn, ReadsLongEntry, long_limits};
 ghost use Rattle.rv_account.specs.Account.{Account, with_entry};
 ghost use Rattle.rv_replies.specs.Known.{HasPassedBy};
@@ -20,10 +20,10 @@ ghost use Rattle.rv_verify.specs.Reading.{IsStopped, NotesOneMore, NotesUnlessSt
 ghost use Rattle.rv_verify.specs.Stages.{AreNew, HasReadNoting};
 
 use crate::fault::VerifyFault;
+use crate::follow::{Followed, follow};
 use rv_account::Entry;
 use rv_audit::Rule;
-use rv_follow::{Followed, follow};
-use rv_lines::{LineFault, read_entry};
+use rv_book::lines::{LineFault, read_entry};
 use rv_machine::Machine;
 use rv_replies::Records;
 use rv_replies::findings::AccountVerdict;

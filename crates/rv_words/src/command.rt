@@ -15,7 +15,7 @@ pub use crate::fault::CommandFault;
 use crate::program::matches_of;
 use crate::reading::text_of;
 use clap::ArgMatches;
-use rv_lines::{read_between, read_identifier};
+use rv_book::lines::{read_between, read_identifier};
 use rv_text::Version;
 use std::alloc::Global;
 

@@ -22,7 +22,7 @@ use crate::listed::listed_command;
 use crate::reading::{is_given, text_of};
 use clap::ArgMatches;
 pub use fault::ShellFault;
-use rv_lines::read_between;
+use rv_book::lines::read_between;
 use rv_text::{Call, Item, Wait};
 use std::alloc::Global;
 pub use value::ShellValue;

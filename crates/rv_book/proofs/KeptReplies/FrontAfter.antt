@@ -1,14 +1,16 @@
 -- An arrival that looks closes and opens nothing, so the front that it saw is that of the state after it.
-use Rattle.rv_state.proofs.Words.{◌++◌, ◌≡◌, ◌∙◌, ◌∷◌, ℕ, [], Option, Some, None, append-nil, ap, cond}
-use Rattle.rv_state.proofs.Words.{refl, take, filter, slice_get, Key, Call, Gives, side_of}
-use Rattle.rv_state.proofs.Words.{wait_of, Arrive, may_name, opposite, ClientState, LastRequest, OpenPlace}
-use Rattle.rv_state.proofs.Words.{State, line, line_of, place_list, same_side, acted, but, met_by}
-use Rattle.rv_state.proofs.Words.{with_last}
+use Rattle.rv_account.proofs.OfState.Words.{◌++◌, ◌≡◌, ◌∙◌, ◌∷◌, ℕ, [], Option, Some, None, append-nil, ap}
+use Rattle.rv_account.proofs.OfState.Words.{cond}
+use Rattle.rv_account.proofs.OfState.Words.{refl, take, filter, slice_get, Key, Call, Gives, side_of}
+use Rattle.rv_account.proofs.OfState.Words.{wait_of, Arrive, may_name, opposite, ClientState, LastRequest}
+use Rattle.rv_account.proofs.OfState.Words.{OpenPlace}
+use Rattle.rv_account.proofs.OfState.Words.{State, line, line_of, place_list, same_side, acted, but, met_by}
+use Rattle.rv_account.proofs.OfState.Words.{with_last}
 use Rattle.std.proofs.Common.{◌&&◌, is_some, map}
 use Rattle.std.proofs.Math.Seq.{take-nil}
 use Rattle.rv_text.specs.declared.call.Side.TheVariants.{Looks}
-use Rattle.rv_state.specs.After.{lasts_by, opened_by, parked}
-use Rattle.rv_state.proofs.PlacesLeft.{but_none}
+use Rattle.rv_account.specs.state.After.{lasts_by, opened_by, parked}
+use Rattle.rv_account.proofs.OfState.PlacesLeft.{but_none}
 use Rattle.rv_book.specs.reply_cache.Keeping.{front_at, front_of}
 
 asked_opens : (t : State) (key : Key) (request : LastRequest) (o : Option ClientState)

@@ -1,15 +1,15 @@
 -- What is kept of a reply stays where more entries follow.
-use Rattle.rv_state.proofs.Words.{◌++◌, ◌∙◌, ◌≡◌, ℕ, List, Option, Some, None, ap, option_and_then}
-use Rattle.rv_state.proofs.Words.{option_map}
-use Rattle.rv_state.proofs.Words.{refl, Entry, Reply, item_of, call_read, reads_on}
-use Rattle.rv_rules.proofs.Keys.{key_read}
+use Rattle.rv_account.proofs.OfState.Words.{◌++◌, ◌∙◌, ◌≡◌, ℕ, List, Option, Some, None, ap, option_and_then}
+use Rattle.rv_account.proofs.OfState.Words.{option_map}
+use Rattle.rv_account.proofs.OfState.Words.{refl, Entry, Reply, item_of, call_read, reads_on}
+use Rattle.rv_account.proofs.OfRules.Keys.{key_read}
 use Rattle.rv_account.specs.Account.{item_at, key_at, partners_items}
 use Rattle.rv_session.specs.declared.kept.Kept.{Kept}
 use Rattle.rv_session.specs.declared.kept.Kept.TheVariants as kept
 use Rattle.rv_text.specs.declared.answer.Reply.TheVariants as reply
-use Rattle.rv_state.proofs.Filtered.{mapped_there}
+use Rattle.rv_account.proofs.OfState.Filtered.{mapped_there}
 use Rattle.rv_book.specs.reply_cache.Keeping.{IsKeptAs, reply_of}
-use Rattle.rv_state.proofs.StayingReplies.{drains_on}
+use Rattle.rv_account.proofs.OfState.StayingReplies.{drains_on}
 
 item_on : (es more : List Entry) (place : ℕ) (told_with : List ℕ → Reply) (told : Reply)
     → option_map told_with (item_at es place) ≡ Some told

@@ -1,13 +1,14 @@
 -- Where the text of a reply by its wait, or of one to a request that meets another, stands.
-use Rattle.rv_state.proofs.Words.{◌≡◌, ℕ, zero, suc, List, Option, Some}
-use Rattle.rv_state.proofs.Words.{subst, none-some, same_Some, Version, Key, Call, Wait, Now, Millis, Forever}
-use Rattle.rv_state.proofs.Words.{Reply, Entry, State, told_met, session_version}
+use Rattle.rv_account.proofs.OfState.Words.{◌≡◌, ℕ, zero, suc, List, Option, Some}
+use Rattle.rv_account.proofs.OfState.Words.{subst, none-some, same_Some, Version, Key, Call, Wait, Now}
+use Rattle.rv_account.proofs.OfState.Words.{Millis, Forever}
+use Rattle.rv_account.proofs.OfState.Words.{Reply, Entry, State, told_met, session_version}
 use Rattle.rv_text.specs.declared.version.Version.TheVariants.{One, Two}
 use Rattle.rv_text.specs.declared.call.Call.TheVariants as call
 use Rattle.rv_text.specs.declared.answer.Reply.TheVariants as reply
 use Rattle.rv_account.specs.Account.{item_at, key_at}
-use Rattle.rv_state.specs.After.{receipt_of, told_unmet}
-use Rattle.rv_state.proofs.Filtered.{chained_there, mapped_there}
+use Rattle.rv_account.specs.state.After.{receipt_of, told_unmet}
+use Rattle.rv_account.proofs.OfState.Filtered.{chained_there, mapped_there}
 use Rattle.rv_book.proofs.KeptReplies.TextsAt.{HasTextAt}
 
 -- a reply by its wait is that at once, or that the time is over

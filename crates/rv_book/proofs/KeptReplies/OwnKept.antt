@@ -1,17 +1,22 @@
 -- Of the client that an entry names, what is kept after it by where the text of its own reply stands is what
 -- its last request is told again.
-use Rattle.rv_state.proofs.Words.{◌≡◌, ◌++◌, ◌∷◌, ◌∙◌, [], ℕ, List, length, Option, Some, None}
-use Rattle.rv_state.proofs.Words.{option_and_then, refl, sym, ap, subst, slice_get, none-some, same_Some}
-use Rattle.rv_state.proofs.Words.{Version, Key, Call, Reply, Gives, side_of, Entry, Act, Hello, Arrive}
-use Rattle.rv_state.proofs.Words.{Cancel, Tick, Account, ClientState, LastRequest, OpenPlace, State, Settled}
-use Rattle.rv_state.proofs.Words.{client_at, client_waits, line, open_at, place_list, place_waiting, Fresh}
-use Rattle.rv_state.proofs.Words.{Waits, RepliedTo, CancelledUnseen, acted, cancelled, following, met_by}
-use Rattle.rv_state.specs.After.{closed, parked, request_after, tell_all, with_open}
+use Rattle.rv_account.proofs.OfState.Words.{◌≡◌, ◌++◌, ◌∷◌, ◌∙◌, [], ℕ, List, length, Option, Some, None}
+use Rattle.rv_account.proofs.OfState.Words.{option_and_then, refl, sym, ap, subst, slice_get, none-some}
+use Rattle.rv_account.proofs.OfState.Words.{same_Some}
+use Rattle.rv_account.proofs.OfState.Words.{Version, Key, Call, Reply, Gives, side_of, Entry, Act, Hello}
+use Rattle.rv_account.proofs.OfState.Words.{Arrive}
+use Rattle.rv_account.proofs.OfState.Words.{Cancel, Tick, Account, ClientState, LastRequest, OpenPlace}
+use Rattle.rv_account.proofs.OfState.Words.{State, Settled}
+use Rattle.rv_account.proofs.OfState.Words.{client_at, client_waits, line, open_at, place_list}
+use Rattle.rv_account.proofs.OfState.Words.{place_waiting, Fresh}
+use Rattle.rv_account.proofs.OfState.Words.{Waits, RepliedTo, CancelledUnseen, acted, cancelled, following}
+use Rattle.rv_account.proofs.OfState.Words.{met_by}
+use Rattle.rv_account.specs.state.After.{closed, parked, request_after, tell_all, with_open}
 use Rattle.rv_text.specs.declared.call.Side.TheVariants.{Looks}
-use Rattle.rv_state.specs.Moves.{told_again}
-use Rattle.rv_state.proofs.Coming.{Comes, more}
-use Rattle.rv_state.proofs.Filtered.{chained_there, mapped_there}
-use Rattle.rv_state.proofs.ToldClients.{get_own, get_tell_all, told_client, told_request}
+use Rattle.rv_account.specs.state.Moves.{told_again}
+use Rattle.rv_account.proofs.OfState.Coming.{Comes, more}
+use Rattle.rv_account.proofs.OfState.Filtered.{chained_there, mapped_there}
+use Rattle.rv_account.proofs.OfState.ToldClients.{get_own, get_tell_all, told_client, told_request}
 use Rattle.rv_book.specs.reply_cache.Keeping.{IsKeptAs, client_of, front_of, kept_again, source_in, source_of}
 use Rattle.rv_book.proofs.KeptReplies.FrontAfter.{front_after}
 use Rattle.rv_book.proofs.KeptReplies.OwnTexts.{own_text}

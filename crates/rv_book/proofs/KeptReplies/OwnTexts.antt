@@ -1,24 +1,28 @@
 -- Where the text of the reply of an arrival's own request stands, where it has one when it comes.
-use Rattle.rv_state.proofs.Words.{◌≡◌, ◌∷◌, ◌∙◌, ℕ, List, [], length, Option, Some, option_and_then}
-use Rattle.rv_state.proofs.Words.{option_map, refl, sym, ap, subst, slice_get, none-some, same_Some, Key}
-use Rattle.rv_state.proofs.Words.{Call}
-use Rattle.rv_state.proofs.Words.{Gives, Takes, Reply, drains_of, item_of, side_of, Entry, Arrive, Account}
-use Rattle.rv_state.proofs.Words.{Act, call_at, call_in, key_in, opposite, gives_item, call_read, reads_on}
-use Rattle.rv_state.proofs.Words.{key_read, get-append_end, OpenPlace, State, Waiter, line, place_list}
-use Rattle.rv_state.proofs.Words.{met_by}
-use Rattle.rv_state.proofs.Words.{told_met, IsArrival}
+use Rattle.rv_account.proofs.OfState.Words.{◌≡◌, ◌∷◌, ◌∙◌, ℕ, List, [], length, Option, Some, option_and_then}
+use Rattle.rv_account.proofs.OfState.Words.{option_map, refl, sym, ap, subst, slice_get, none-some}
+use Rattle.rv_account.proofs.OfState.Words.{same_Some, Key}
+use Rattle.rv_account.proofs.OfState.Words.{Call}
+use Rattle.rv_account.proofs.OfState.Words.{Gives, Takes, Reply, drains_of, item_of, side_of, Entry, Arrive}
+use Rattle.rv_account.proofs.OfState.Words.{Account}
+use Rattle.rv_account.proofs.OfState.Words.{Act, call_at, call_in, key_in, opposite, gives_item, call_read}
+use Rattle.rv_account.proofs.OfState.Words.{reads_on}
+use Rattle.rv_account.proofs.OfState.Words.{key_read, get-append_end, OpenPlace, State, Waiter, line}
+use Rattle.rv_account.proofs.OfState.Words.{place_list}
+use Rattle.rv_account.proofs.OfState.Words.{met_by}
+use Rattle.rv_account.proofs.OfState.Words.{told_met, IsArrival}
 use Rattle.std.proofs.Common.{filter_map}
 use Rattle.std.specs.Prelude.{unwrap_or}
 use Rattle.rv_account.specs.Account.{items_at, item_at, key_at, partners_items}
 use Rattle.rv_text.specs.declared.call.Side.TheVariants.{Looks}
 use Rattle.rv_text.specs.declared.call.Call.TheVariants as call
 use Rattle.rv_text.specs.declared.answer.Reply.TheVariants as reply
-use Rattle.rv_state.specs.After.{key_of_waiter, told_alone, told_front, told_own, told_with}
-use Rattle.rv_state.proofs.Coming.{Comes, more}
-use Rattle.rv_state.proofs.Filtered.{mapped_there}
-use Rattle.rv_state.proofs.MetPlaces.{IsMet, is_met, line_of_there, partners_are}
-use Rattle.rv_state.proofs.OwnReplies.{items_met}
-use Rattle.rv_state.proofs.WaitQueuesThere.{waiter_waits}
+use Rattle.rv_account.specs.state.After.{key_of_waiter, told_alone, told_front, told_own, told_with}
+use Rattle.rv_account.proofs.OfState.Coming.{Comes, more}
+use Rattle.rv_account.proofs.OfState.Filtered.{mapped_there}
+use Rattle.rv_account.proofs.OfState.MetPlaces.{IsMet, is_met, line_of_there, partners_are}
+use Rattle.rv_account.proofs.OfState.OwnReplies.{items_met}
+use Rattle.rv_account.proofs.OfState.WaitQueuesThere.{waiter_waits}
 use Rattle.rv_book.specs.reply_cache.Keeping.{source_in, source_named, source_of}
 use Rattle.rv_book.proofs.KeptReplies.MetTexts.{met_text, unmet_text}
 use Rattle.rv_book.proofs.KeptReplies.TextsAt.{HasTextAt}

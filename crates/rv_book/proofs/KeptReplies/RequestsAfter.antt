@@ -1,12 +1,14 @@
 -- The last requests of clients after an entry: that of its own key, and those of the clients that it doesn't
 -- name, which are told at most.
-use Rattle.rv_state.proofs.Words.{◌≡◌, ◌∙◌, ℕ, [], Option, Some, None, option_map, sym, ap, none-some}
-use Rattle.rv_state.proofs.Words.{same_Some, Key, Act, Hello, Arrive, Cancel, Tick, ClientState, LastRequest}
-use Rattle.rv_state.proofs.Words.{OpenPlace, State, client_at, client_waits, CancelledUnseen, acted}
-use Rattle.rv_state.proofs.Words.{cancelled}
-use Rattle.rv_state.proofs.Words.{with_last, refl}
-use Rattle.rv_state.specs.After.{tell_all}
-use Rattle.rv_state.proofs.ToldClients.{get_other, get_own, get_tell_all, told_client}
+use Rattle.rv_account.proofs.OfState.Words.{◌≡◌, ◌∙◌, ℕ, [], Option, Some, None, option_map, sym, ap}
+use Rattle.rv_account.proofs.OfState.Words.{none-some}
+use Rattle.rv_account.proofs.OfState.Words.{same_Some, Key, Act, Hello, Arrive, Cancel, Tick, ClientState}
+use Rattle.rv_account.proofs.OfState.Words.{LastRequest}
+use Rattle.rv_account.proofs.OfState.Words.{OpenPlace, State, client_at, client_waits, CancelledUnseen, acted}
+use Rattle.rv_account.proofs.OfState.Words.{cancelled}
+use Rattle.rv_account.proofs.OfState.Words.{with_last, refl}
+use Rattle.rv_account.specs.state.After.{tell_all}
+use Rattle.rv_account.proofs.OfState.ToldClients.{get_other, get_own, get_tell_all, told_client}
 use Rattle.rv_book.specs.reply_cache.Keeping.{client_of}
 
 -- ---- the request of its own key

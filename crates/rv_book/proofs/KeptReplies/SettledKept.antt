@@ -1,16 +1,20 @@
 -- Of each client that an entry settles, what is kept after it by the entry's place is what its last request
 -- is told again.
-use Rattle.rv_state.proofs.Words.{◌++◌, ◌≡◌, ◌⊎◌, ◌∷◌, ◌∙◌, [], inl, inr, ℕ, List, length, Option, Some, None}
-use Rattle.rv_state.proofs.Words.{option_and_then, option_map, refl, sym, ap, subst, none-some, same_Some}
-use Rattle.rv_state.proofs.Words.{slice_get, Act, Hello, Arrive, Cancel, Tick, Entry, Account, key_in}
-use Rattle.rv_state.proofs.Words.{HasWaiting, ClientState, State, Settled, client_at, client_waits, Waits}
-use Rattle.rv_state.proofs.Words.{acted, following}
-use Rattle.rv_rules.proofs.Numbers.{same_or_not}
-use Rattle.rv_state.specs.Moves.{told_again}
-use Rattle.rv_state.proofs.Coming.{Comes, more}
-use Rattle.rv_state.proofs.Sessions.{waits_in_state}
-use Rattle.rv_state.proofs.Telling.{IsSettledBy, settled_replies}
-use Rattle.rv_state.proofs.ToldClients.{told_client, told_request}
+use Rattle.rv_account.proofs.OfState.Words.{◌++◌, ◌≡◌, ◌⊎◌, ◌∷◌, ◌∙◌, [], inl, inr, ℕ, List, length, Option}
+use Rattle.rv_account.proofs.OfState.Words.{Some, None}
+use Rattle.rv_account.proofs.OfState.Words.{option_and_then, option_map, refl, sym, ap, subst, none-some}
+use Rattle.rv_account.proofs.OfState.Words.{same_Some}
+use Rattle.rv_account.proofs.OfState.Words.{slice_get, Act, Hello, Arrive, Cancel, Tick, Entry, Account}
+use Rattle.rv_account.proofs.OfState.Words.{key_in}
+use Rattle.rv_account.proofs.OfState.Words.{HasWaiting, ClientState, State, Settled, client_at}
+use Rattle.rv_account.proofs.OfState.Words.{client_waits, Waits}
+use Rattle.rv_account.proofs.OfState.Words.{acted, following}
+use Rattle.rv_account.proofs.OfRules.Numbers.{same_or_not}
+use Rattle.rv_account.specs.state.Moves.{told_again}
+use Rattle.rv_account.proofs.OfState.Coming.{Comes, more}
+use Rattle.rv_account.proofs.OfState.Sessions.{waits_in_state}
+use Rattle.rv_account.proofs.OfState.Telling.{IsSettledBy, settled_replies}
+use Rattle.rv_account.proofs.OfState.ToldClients.{told_client, told_request}
 use Rattle.rv_book.specs.reply_cache.Keeping.{IsKeptAs, client_of, kept_again}
 use Rattle.rv_book.proofs.KeptReplies.OwnKept.{cancel_kept, hello_kept}
 use Rattle.rv_book.proofs.KeptReplies.RequestsAfter.{others_told}

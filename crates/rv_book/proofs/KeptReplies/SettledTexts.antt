@@ -1,14 +1,17 @@
 -- What an entry tells those whom it settles stands at its own place.
-use Rattle.rv_state.proofs.Words.{◌≡◌, ◌∙◌, inl, inr, ℕ, List, length, Option, Some, option_and_then, refl}
-use Rattle.rv_state.proofs.Words.{sym, ap, subst, slice_get, same_Some, Key, Call, Reply, item_of, Entry, Act}
-use Rattle.rv_state.proofs.Words.{Hello, Arrive, Cancel, Tick, Account, ClientState, OpenPlace, State}
-use Rattle.rv_state.proofs.Words.{Settled}
-use Rattle.rv_state.proofs.Words.{client_at, Waits, acted, told_met}
-use Rattle.rv_state.specs.State.{call_waiting}
-use Rattle.rv_state.proofs.Coming.{Comes, more}
-use Rattle.rv_state.proofs.Filtered.{chained_there}
-use Rattle.rv_state.proofs.Settling.{tells, was_settled}
-use Rattle.rv_state.proofs.ToldClients.{told_or_waits, told_request}
+use Rattle.rv_account.proofs.OfState.Words.{◌≡◌, ◌∙◌, inl, inr, ℕ, List, length, Option, Some}
+use Rattle.rv_account.proofs.OfState.Words.{option_and_then, refl}
+use Rattle.rv_account.proofs.OfState.Words.{sym, ap, subst, slice_get, same_Some, Key, Call, Reply, item_of}
+use Rattle.rv_account.proofs.OfState.Words.{Entry, Act}
+use Rattle.rv_account.proofs.OfState.Words.{Hello, Arrive, Cancel, Tick, Account, ClientState, OpenPlace}
+use Rattle.rv_account.proofs.OfState.Words.{State}
+use Rattle.rv_account.proofs.OfState.Words.{Settled}
+use Rattle.rv_account.proofs.OfState.Words.{client_at, Waits, acted, told_met}
+use Rattle.rv_account.specs.state.State.{call_waiting}
+use Rattle.rv_account.proofs.OfState.Coming.{Comes, more}
+use Rattle.rv_account.proofs.OfState.Filtered.{chained_there}
+use Rattle.rv_account.proofs.OfState.Settling.{tells, was_settled}
+use Rattle.rv_account.proofs.OfState.ToldClients.{told_or_waits, told_request}
 use Rattle.rv_book.proofs.KeptReplies.MetTexts.{met_text}
 use Rattle.rv_book.proofs.KeptReplies.OwnTexts.{last_item, last_key}
 use Rattle.rv_book.proofs.KeptReplies.TextsAt.{HasTextAt, KeepsAt, had_again}

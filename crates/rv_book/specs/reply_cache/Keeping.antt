@@ -14,8 +14,8 @@ use Rattle.rv_session.specs.declared.kept.Kept as kept
 use Rattle.rv_account.specs.declared.entry.Entry.{Entry}
 use Rattle.rv_account.specs.declared.entry.Act.{Act}
 use Rattle.rv_account.specs.declared.entry.Act.TheVariants.{Hello, Arrive, Cancel, Tick}
-use Rattle.rv_state.specs.State.{State, line, place_list}
-use Rattle.rv_state.specs.Moves.{told_again}
+use Rattle.rv_account.specs.state.State.{State, line, place_list}
+use Rattle.rv_account.specs.state.Moves.{told_again}
 -- Re-exported from Recalling: from what is kept to the reply.
 pub use Rattle.rv_book.specs.reply_cache.Recalling.{ReplyHasText, reply_of}
 

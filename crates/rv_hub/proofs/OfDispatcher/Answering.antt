@@ -9,8 +9,8 @@ use Rattle.rv_frame.specs.Cut.{length_bytes}
 use Rattle.rv_machine.specs.Machines.{state_in}
 use Rattle.rv_server_connections.specs.connection.Traffic.{IsDue, Traffic}
 use Rattle.rv_server_connections.specs.connection.Steps.{AnswersBy, taken}
-use Rattle.rv_state.specs.waiting.Waiting.{WaitsOn}
-use Rattle.rv_state.proofs.OfWaiting.WaitingLaws.{waiting_fits}
+use Rattle.rv_account.specs.state.waiting.Waiting.{WaitsOn}
+use Rattle.rv_account.proofs.OfState.OfWaiting.WaitingLaws.{waiting_fits}
 use Rattle.rv_server_connections.specs.declared.subscribers.Subscribers.{Subscribers}
 use Rattle.rv_server_connections.specs.declared.subscribers.tables.Subscription.{Subscription}
 use Rattle.rv_server_connections.specs.subscribers.Subscription.{SetsSubscription, WhoHears}

@@ -10,8 +10,8 @@ use Rattle.rv_text.specs.declared.message.Key.{Key}
 use Rattle.rv_text.specs.declared.answer.Answer.{Answer}
 use Rattle.rv_text.specs.declared.answer.Answer.TheVariants as answer
 use Rattle.rv_session.specs.declared.client.ClientState.{ClientState}
-use Rattle.rv_state.specs.State.{State}
-use Rattle.rv_state.specs.Moves.{answer_told, told_again}
+use Rattle.rv_account.specs.state.State.{State}
+use Rattle.rv_account.specs.state.Moves.{answer_told, told_again}
 use Rattle.rv_server_connections.specs.declared.subscribers.tables.Subscription.{Subscription}
 use Rattle.rv_server_connections.specs.subscribers.Subscription.{SetsSubscription, WhoHears}
 use Rattle.rv_hub.specs.declared.dispatcher.Dispatcher.{Dispatcher}

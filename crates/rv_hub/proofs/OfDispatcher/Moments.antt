@@ -5,7 +5,7 @@ use Rattle.std.proofs.lemmas.Bool.Decides.{nat_tests}
 use Rattle.std.specs.Bool.{then_some}
 use Rattle.std.specs.Prelude.{min}
 use Rattle.std.proofs.lemmas.Bool.{cases_lt}
-use Rattle.rv_state.specs.After.{due_at}
+use Rattle.rv_account.specs.state.After.{due_at}
 use Rattle.rv_machine.specs.Redoing.{IsNextLimit}
 use Rattle.rv_server_connections.specs.declared.subscribers.tables.Subscription.{Subscription}
 use Rattle.rv_server_connections.specs.subscribers.Subscription.{IsNextUntil, WhoHears}

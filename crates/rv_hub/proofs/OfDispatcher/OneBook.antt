@@ -4,8 +4,8 @@ use Rattle.std.specs.Prelude.{flat_map}
 use Rattle.rv_text.specs.declared.answer.Answer.{Answer}
 use Rattle.rv_text.specs.declared.answer.Answer.TheVariants as answer
 use Rattle.rv_account.specs.declared.entry.Entry.{Entry}
-use Rattle.rv_rules.specs.StepLimits.{StepLimits}
-use Rattle.rv_state.specs.State.{State}
+use Rattle.rv_account.specs.rules.StepLimits.{StepLimits}
+use Rattle.rv_account.specs.state.State.{State}
 use Rattle.rv_hub.specs.dispatcher.View.{DispatcherState, DispatcherTerms}
 use Rattle.rv_hub.specs.dispatcher.Effects.{AnswersOrWaits, Effect, Does, MakesStep, Stepped}
 use Rattle.rv_hub.specs.dispatcher.Effects.{entries_of_effect, Asked, Closed, Elapsed, EndedInput, Lacked}

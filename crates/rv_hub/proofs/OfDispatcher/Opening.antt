@@ -6,10 +6,10 @@ use Rattle.std.specs.Global.{Vec}
 use Rattle.std.specs.Prelude.{IsSome, vec_capacity}
 use Rattle.std.proofs.lemmas.Bool.{false≢true}
 use Rattle.std.proofs.lemmas.Option.{none-some}
-use Rattle.rv_rules.specs.StepLimits.{AreStepLimits}
+use Rattle.rv_account.specs.rules.StepLimits.{AreStepLimits}
 use Rattle.rv_machine.specs.Machines.{state_in}
 use Rattle.rv_machine.specs.declared.machine.Machine.{Machine}
-use Rattle.rv_state.specs.resume.Resuming.{CanResume}
+use Rattle.rv_account.specs.state.resume.Resuming.{CanResume}
 use Rattle.rv_account.specs.declared.entry.Entry.{Entry}
 use Rattle.rv_server_connections.specs.connection.Traffic.{Traffic}
 use Rattle.rv_server_connections.specs.connection.Steps.{fresh_traffic, input_ended, left_by}

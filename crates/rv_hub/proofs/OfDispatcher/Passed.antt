@@ -6,17 +6,17 @@ use Rattle.std.specs.Global.{Vec}
 use Rattle.std.proofs.lemmas.List.{append-nil}
 use Rattle.std.proofs.lemmas.Grind.{flat_map-append}
 use Rattle.rv_account.specs.declared.entry.Entry.{Entry}
-use Rattle.rv_rules.specs.Steps.{max_moment}
-use Rattle.rv_state.specs.State.{State}
-use Rattle.rv_state.specs.After.{due_at}
-use Rattle.rv_state.specs.Moves.{state_moment, ticked_at}
-use Rattle.rv_state.specs.resume.Resuming.{CanResume}
+use Rattle.rv_account.specs.rules.Steps.{max_moment}
+use Rattle.rv_account.specs.state.State.{State}
+use Rattle.rv_account.specs.state.After.{due_at}
+use Rattle.rv_account.specs.state.Moves.{state_moment, ticked_at}
+use Rattle.rv_account.specs.state.resume.Resuming.{CanResume}
 use Rattle.rv_machine.specs.declared.machine.Machine.{Machine}
 use Rattle.rv_machine.specs.declared.steps.TickMade.{TickMade}
 use Rattle.rv_machine.specs.Machines.{keys_settled, state_in}
 use Rattle.rv_machine.specs.Stepping.{IsTick}
-use Rattle.rv_state.specs.waiting.Waiting.{WaitsOn}
-use Rattle.rv_state.proofs.OfWaiting.WaitingLaws.{ticks_last}
+use Rattle.rv_account.specs.state.waiting.Waiting.{WaitsOn}
+use Rattle.rv_account.proofs.OfState.OfWaiting.WaitingLaws.{ticks_last}
 use Rattle.rv_server_connections.specs.declared.subscribers.tables.Subscription.{Subscription}
 use Rattle.rv_hub.specs.declared.dispatcher.Dispatcher.{Dispatcher}
 use Rattle.rv_hub.specs.dispatcher.View.{moment_now}

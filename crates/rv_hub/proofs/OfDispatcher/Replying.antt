@@ -8,8 +8,8 @@ use Rattle.rv_text.specs.declared.answer.Reply.{Reply}
 use Rattle.rv_text.specs.Bodies.{answer_text}
 use Rattle.rv_session.specs.declared.client.ClientState.{ClientState}
 use Rattle.rv_session.specs.declared.client.LastRequest.{LastRequest}
-use Rattle.rv_state.specs.State.{client_at}
-use Rattle.rv_state.specs.Moves.{answer_told, told_again}
+use Rattle.rv_account.specs.state.State.{client_at}
+use Rattle.rv_account.specs.state.Moves.{answer_told, told_again}
 use Rattle.rv_machine.specs.declared.machine.Said.TheVariants as said
 use Rattle.rv_machine.specs.Machines.{Says, state_in}
 use Rattle.rv_hub.specs.declared.dispatcher.Dispatcher.{Dispatcher}

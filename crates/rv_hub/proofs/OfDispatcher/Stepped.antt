@@ -6,9 +6,9 @@ use Rattle.rv_text.specs.declared.message.Key.{Key}
 use Rattle.rv_text.specs.declared.message.Message.{Message}
 use Rattle.rv_text.specs.Limits.{FitsMessage}
 use Rattle.rv_account.specs.declared.entry.Entry.{Entry}
-use Rattle.rv_state.specs.State.{State}
-use Rattle.rv_state.specs.After.{Settled, due_at}
-use Rattle.rv_state.specs.resume.Resuming.{CanResume}
+use Rattle.rv_account.specs.state.State.{State}
+use Rattle.rv_account.specs.state.After.{Settled, due_at}
+use Rattle.rv_account.specs.state.resume.Resuming.{CanResume}
 use Rattle.rv_machine.specs.declared.machine.Machine.{Machine}
 use Rattle.rv_machine.specs.declared.steps.Heard.{Heard}
 use Rattle.rv_machine.specs.Machines.{keys_settled, state_in}
@@ -19,8 +19,8 @@ use Rattle.rv_hub.specs.declared.dispatcher.Dispatcher.{Dispatcher}
 use Rattle.rv_hub.specs.dispatcher.Telling.{IsTellable, WaitsOn}
 use Rattle.rv_hub.specs.dispatcher.Fields.{IsBook, IsDispatcherSound, IsSteady, dispatcher_terms}
 use Rattle.rv_hub.specs.dispatcher.Going.{IsAmongKeys, StepsIt, StillGoes}
-use Rattle.rv_state.specs.waiting.Laws.{LeavesNoneDue}
-use Rattle.rv_state.proofs.OfWaiting.WaitingLaws.{moves_answer, moves_last, waiting_fits}
+use Rattle.rv_account.specs.state.waiting.Laws.{LeavesNoneDue}
+use Rattle.rv_account.proofs.OfState.OfWaiting.WaitingLaws.{moves_answer, moves_last, waiting_fits}
 
 -- a request that waited can be told after the step
 pub tellable_after : (s after : State) (settles : List Settled) (moment : ℕ) (key : Key) → CanResume s

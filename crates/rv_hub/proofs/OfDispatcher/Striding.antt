@@ -14,11 +14,11 @@ use Rattle.rv_text.specs.Bodies.{Decodes, IsMessageBody, answer_text}
 use Rattle.rv_json.specs.declared.fault.TextFault.{TextFault}
 use Rattle.rv_json.specs.declared.fault.TextFault.TheVariants as fault
 use Rattle.rv_account.specs.declared.entry.Entry.{Entry}
-use Rattle.rv_state.specs.After.{due_at}
-use Rattle.rv_state.specs.State.{State}
+use Rattle.rv_account.specs.state.After.{due_at}
+use Rattle.rv_account.specs.state.State.{State}
 use Rattle.rv_machine.specs.declared.machine.Said.{Said}
 use Rattle.rv_machine.specs.Machines.{Says, keys_settled, state_in}
-use Rattle.rv_state.specs.waiting.Waiting.{WaitsOn}
+use Rattle.rv_account.specs.state.waiting.Waiting.{WaitsOn}
 use Rattle.rv_server_connections.specs.declared.subscribers.tables.Subscription.{Subscription}
 use Rattle.rv_server_connections.specs.subscribers.Subscription.{SetsSubscription, WhoHears}
 use Rattle.rv_hub.specs.declared.dispatcher.Dispatcher.{Dispatcher}

@@ -9,10 +9,10 @@ use Rattle.rv_text.specs.declared.answer.Answer.TheVariants as answer
 use Rattle.rv_text.specs.declared.answer.Refusal.TheVariants.{OldIncarnation}
 use Rattle.rv_text.specs.Bodies.{answer_text}
 use Rattle.rv_text.specs.Limits.{FitsAnswer}
-use Rattle.rv_state.specs.State.{ClientState, State, client_at}
-use Rattle.rv_state.specs.Moves.{answer_told, told_again}
-use Rattle.rv_state.specs.resume.Resuming.{CanResume}
-use Rattle.rv_state.proofs.OfWaiting.WaitingLaws.{old_fits, told_fits}
+use Rattle.rv_account.specs.state.State.{ClientState, State, client_at}
+use Rattle.rv_account.specs.state.Moves.{answer_told, told_again}
+use Rattle.rv_account.specs.state.resume.Resuming.{CanResume}
+use Rattle.rv_account.proofs.OfState.OfWaiting.WaitingLaws.{old_fits, told_fits}
 use Rattle.rv_server_connections.specs.declared.subscribers.tables.Subscription.{Subscription}
 use Rattle.rv_hub.specs.dispatcher.Telling.{IsTellable, IsToldAgain, WasLast}
 use Rattle.rv_hub.specs.dispatcher.Going.{IsToldText}

@@ -4,7 +4,7 @@ use Rattle.std.proofs.Common.{Bool, false, length, true}
 use Rattle.std.proofs.lemmas.Bool.{false≢true}
 use Rattle.std.proofs.lemmas.List.{append-nil, length-append}
 use Rattle.std.proofs.lemmas.Option.{none-some}
-use Rattle.rv_rules.specs.StepLimits.{AreStepLimits}
+use Rattle.rv_account.specs.rules.StepLimits.{AreStepLimits}
 use Rattle.rv_machine.specs.Machines.{state_in}
 use Rattle.rv_server_connections.specs.connection.Traffic.{Traffic}
 use Rattle.rv_server_connections.specs.declared.subscribers.Subscribers.{Subscribers}

@@ -17,9 +17,9 @@ use Rattle.std.proofs.lemmas.Map.Views.{Contains-from_any, any-filter_same, list
 use Rattle.std.proofs.lemmas.Option.{none-some}
 use Rattle.rv_session.specs.Clients.{place_waiting}
 use Rattle.rv_session.specs.declared.client.LastRequest.TheVariants.{Waits}
-use Rattle.rv_state.specs.State.{ClientState, OpenPlace, State, Waiter, client_at, waiting_count}
-use Rattle.rv_state.specs.resume.Resuming.{CanResume}
-use Rattle.rv_state.specs.waiting.Waiting.{WaitsOn}
+use Rattle.rv_account.specs.state.State.{ClientState, OpenPlace, State, Waiter, client_at, waiting_count}
+use Rattle.rv_account.specs.state.resume.Resuming.{CanResume}
+use Rattle.rv_account.specs.state.waiting.Waiting.{WaitsOn}
 use Rattle.rv_server_connections.specs.declared.subscribers.tables.Subscription.{Subscription}
 use Rattle.rv_server_connections.specs.subscribers.Subscription.{AreHeard, CountsHeard, HasSubscriber}
 use Rattle.rv_server_connections.specs.subscribers.Subscription.{SubscribesTo, WhoHears}

@@ -9,8 +9,8 @@ use Rattle.rv_text.specs.declared.answer.Refusal.TheVariants.{BadText, NoMemory}
 use Rattle.rv_text.specs.Bodies.{IsMessageBody, answer_text}
 use Rattle.rv_account.specs.declared.entry.Entry.{Entry}
 -- how many entries an answer to a step rests on
-pub use Rattle.rv_rules.specs.Resting.{rests_on}
-use Rattle.rv_state.specs.Moves.{Move, StateNextAtUnder, ticked_at}
+pub use Rattle.rv_account.specs.rules.Resting.{rests_on}
+use Rattle.rv_account.specs.state.Moves.{Move, StateNextAtUnder, ticked_at}
 use Rattle.rv_server_connections.specs.connection.Traffic.{IsDue, Traffic}
 use Rattle.rv_server_connections.specs.connection.Steps.{AnswersBy, TakesIn, input_ended, left_by, taken}
 use Rattle.rv_server_connections.specs.declared.subscribers.tables.Subscription.{Subscription}

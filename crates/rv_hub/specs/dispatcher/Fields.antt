@@ -1,11 +1,11 @@
 -- What the fields of a dispatcher hold.
 use Rattle.std.specs.Prelude.{ℕ, ◌≡◌, ◌<◌, ◌≤◌, [], Some, vec_capacity}
-use Rattle.rv_rules.specs.Steps.{max_moment}
-use Rattle.rv_rules.specs.StepLimits.{AreStepLimits}
-use Rattle.rv_state.specs.After.{due_at}
+use Rattle.rv_account.specs.rules.Steps.{max_moment}
+use Rattle.rv_account.specs.rules.StepLimits.{AreStepLimits}
+use Rattle.rv_account.specs.state.After.{due_at}
 use Rattle.rv_machine.specs.Machines.{state_in}
 use Rattle.rv_machine.specs.declared.machine.Machine.{Machine}
-use Rattle.rv_state.specs.resume.Resuming.{CanResume}
+use Rattle.rv_account.specs.state.resume.Resuming.{CanResume}
 use Rattle.rv_server_connections.specs.declared.subscribers.tables.Subscription.{Subscription}
 use Rattle.rv_server_connections.specs.subscribers.Subscribers.{subscribers_of}
 use Rattle.rv_server_connections.specs.Wires.{tally_in, wires_in}

@@ -14,12 +14,12 @@ use Rattle.rv_json.specs.declared.fault.TextFault.{TextFault}
 use Rattle.rv_json.specs.declared.fault.TextFault.TheVariants as fault
 use Rattle.rv_text.specs.Limits.{FitsAnswer}
 use Rattle.rv_account.specs.declared.entry.Entry.{Entry}
-use Rattle.rv_state.specs.Moves.{Move, StateNextAtUnder, ticked_at}
-use Rattle.rv_state.specs.After.{due_at}
-use Rattle.rv_state.specs.State.{State}
+use Rattle.rv_account.specs.state.Moves.{Move, StateNextAtUnder, ticked_at}
+use Rattle.rv_account.specs.state.After.{due_at}
+use Rattle.rv_account.specs.state.State.{State}
 use Rattle.rv_machine.specs.declared.machine.Said.{Said}
 use Rattle.rv_machine.specs.Machines.{Says, keys_settled, state_in}
-use Rattle.rv_state.specs.resume.Resuming.{CanResume}
+use Rattle.rv_account.specs.state.resume.Resuming.{CanResume}
 use Rattle.rv_server_connections.specs.connection.Traffic.{IsDue, IsFinished, Traffic}
 use Rattle.rv_server_connections.specs.connection.Steps.{AnswersBy}
 use Rattle.rv_server_connections.specs.declared.subscribers.tables.Subscription.{Subscription}

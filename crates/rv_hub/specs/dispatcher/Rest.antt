@@ -1,6 +1,6 @@
 -- What holds of a dispatcher after each effect, and where a connection stops.
 use Rattle.std.specs.Prelude.{ℕ, ◌≡◌, ◌<◌, ◌≤◌, ◌⊎◌, [], true, IsSome, Some}
-use Rattle.rv_state.specs.After.{due_at}
+use Rattle.rv_account.specs.state.After.{due_at}
 use Rattle.rv_server_connections.specs.connection.Traffic.{IsDue, IsFinished, Traffic}
 use Rattle.rv_server_connections.specs.declared.subscribers.tables.Subscription.{Subscription}
 use Rattle.rv_server_connections.specs.Connections.{HasWire, WireTakesNoMore}

@@ -3,10 +3,10 @@ use Rattle.std.specs.Prelude.{ℕ, ◌≡◌, ◌≢◌, ◌≤◌, ◌⊎◌, L
 use Rattle.std.specs.Prelude.{flat_map}
 use Rattle.rv_text.specs.declared.message.Message.{Message}
 use Rattle.rv_account.specs.declared.entry.Entry.{Entry}
-use Rattle.rv_rules.specs.StepLimits.{StepLimits}
-use Rattle.rv_state.specs.State.{State}
+use Rattle.rv_account.specs.rules.StepLimits.{StepLimits}
+use Rattle.rv_account.specs.state.State.{State}
 use Rattle.rv_server_connections.specs.connection.Traffic.{Traffic}
-use Rattle.rv_state.specs.Moves.{Move, StateNextAtUnder, ticked_at}
+use Rattle.rv_account.specs.state.Moves.{Move, StateNextAtUnder, ticked_at}
 use Rattle.rv_hub.specs.dispatcher.View.{DispatcherState, DispatcherTerms}
 use Rattle.rv_hub.specs.dispatcher.Effects.{Effect, DoesAll, entries_of_effect, told_in_effects}
 use Rattle.rv_hub.specs.dispatcher.Order.{IsTurn}

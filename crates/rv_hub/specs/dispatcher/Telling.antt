@@ -9,11 +9,11 @@ use Rattle.rv_text.specs.declared.call.Call.{Call}
 use Rattle.rv_text.specs.Limits.{FitsKey}
 use Rattle.rv_session.specs.declared.client.LastRequest.{LastRequest}
 use Rattle.rv_session.specs.declared.client.LastRequest.TheVariants.{Waits}
-use Rattle.rv_state.specs.Moves.{answer_told, told_again}
-use Rattle.rv_state.specs.State.{ClientState, State, client_at}
+use Rattle.rv_account.specs.state.Moves.{answer_told, told_again}
+use Rattle.rv_account.specs.state.State.{ClientState, State, client_at}
 use Rattle.rv_server_connections.specs.subscribers.Subscription.{SubscribesTo, WhoHears}
 -- the request with this key waits
-pub use Rattle.rv_state.specs.waiting.Waiting.{WaitsOn}
+pub use Rattle.rv_account.specs.state.waiting.Waiting.{WaitsOn}
 
 -- it was the last of its session, or its session now has a greater incarnation
 abbrev pub WasLast : ClientState → Key → Type 0

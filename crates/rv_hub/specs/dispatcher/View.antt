@@ -1,8 +1,8 @@
 -- What contracts see of a dispatcher.
 use Rattle.std.specs.Prelude.{ℕ, ◌≡◌, List, [], max, min}
-use Rattle.rv_rules.specs.Steps.{max_moment}
-use Rattle.rv_rules.specs.StepLimits.{StepLimits}
-use Rattle.rv_state.specs.State.{State}
+use Rattle.rv_account.specs.rules.Steps.{max_moment}
+use Rattle.rv_account.specs.rules.StepLimits.{StepLimits}
+use Rattle.rv_account.specs.state.State.{State}
 use Rattle.rv_server_connections.specs.Connections.{ChangesWire, ListsOne, WiresState}
 use Rattle.rv_server_connections.specs.connection.Traffic.{Traffic}
 use Rattle.rv_server_connections.specs.subscribers.Subscription.{WhoHears}

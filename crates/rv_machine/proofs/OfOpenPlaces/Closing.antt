@@ -8,7 +8,7 @@ use Rattle.std.proofs.lemmas.Bool.Decides.{nat_tests}
 use Rattle.std.proofs.lemmas.List.{length-append}
 use Rattle.std.proofs.lemmas.List.Elements.{filter-append}
 use Rattle.rv_text.specs.declared.call.Side.{Side}
-use Rattle.rv_state.specs.State.{OpenPlace, place_list, same_side}
+use Rattle.rv_account.specs.state.State.{OpenPlace, place_list, same_side}
 use Rattle.rv_machine.specs.open_places.OpenMap.{found_at, line_in, count_waiting, all_but}
 use Rattle.rv_machine.proofs.OfOpenPlaces.Parted.{PartedAt, filter_twice}
 

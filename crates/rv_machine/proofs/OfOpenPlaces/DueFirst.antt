@@ -15,10 +15,10 @@ use Rattle.std.specs.declared.cmp.Ordering.TheVariants.{Less, Equal, Greater}
 use Rattle.std.proofs.lemmas.Bool.{false≢true, true≢false, le-ltb, lt-ltb}
 use Rattle.rv_due.specs.Deadlines.{AllAbove, Deadline, IsLeastUntil, Precedes, by_moment}
 use Rattle.rv_due.proofs.Order.{by_moment_total, by_moment-IsAntisymmetric}
-use Rattle.rv_state.specs.State.{OpenPlace}
-use Rattle.rv_state.specs.After.{deadline_of_place}
-use Rattle.rv_state.proofs.Words.{cons_option}
-use Rattle.rv_state.proofs.Filtered.{filter_get, get_any}
+use Rattle.rv_account.specs.state.State.{OpenPlace}
+use Rattle.rv_account.specs.state.After.{deadline_of_place}
+use Rattle.rv_account.proofs.OfState.Words.{cons_option}
+use Rattle.rv_account.proofs.OfState.Filtered.{filter_get, get_any}
 use Rattle.rv_machine.specs.open_places.OpenMap.{due_in, found_at, deadlines_in, limits_map, marked, all_but}
 use Rattle.rv_machine.proofs.OfOpenPlaces.Closing.{found_apart}
 use Rattle.rv_machine.proofs.OfOpenPlaces.Limits.{any_parted, not_listed, own_test}

@@ -6,9 +6,9 @@ use Rattle.std.proofs.lemmas.Bool.{eq-eqb}
 use Rattle.rv_text.specs.declared.call.Side.{Side}
 use Rattle.rv_session.specs.OwedDuty.{OwedDuty}
 use Rattle.rv_due.specs.Deadlines.{Deadlines}
-use Rattle.rv_state.specs.State.{OpenPlace, Waiter, place_list, same_side}
-use Rattle.rv_state.proofs.Filtered.{filter_get, rises_left}
-use Rattle.rv_state.proofs.SideLines.{same_side_is}
+use Rattle.rv_account.specs.state.State.{OpenPlace, Waiter, place_list, same_side}
+use Rattle.rv_account.proofs.OfState.Filtered.{filter_get, rises_left}
+use Rattle.rv_account.proofs.OfState.SideLines.{same_side_is}
 use Rattle.rv_model_queues.specs.Parked.{AreParked}
 use Rattle.rv_model_queues.specs.Views.{WaitQueues, waiting_on}
 use Rattle.rv_machine.specs.open_places.OpenMap.{PlacesRise, duty_at, found_at, line_in, owed_among}

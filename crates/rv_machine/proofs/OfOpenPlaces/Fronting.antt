@@ -11,9 +11,9 @@ use Rattle.rv_session.specs.Claims.{Claiming}
 use Rattle.rv_session.specs.ClientOrder.{is_above}
 use Rattle.rv_session.specs.declared.client.ClientState.{ClientState}
 use Rattle.rv_account.specs.Calls.{opposite}
-use Rattle.rv_state.specs.State.{OpenPlace, same_side}
-use Rattle.rv_state.proofs.SideLines.{same_side_is}
-use Rattle.rv_state.proofs.Words.{none-some}
+use Rattle.rv_account.specs.state.State.{OpenPlace, same_side}
+use Rattle.rv_account.proofs.OfState.SideLines.{same_side_is}
+use Rattle.rv_account.proofs.OfState.Words.{none-some}
 use Rattle.rv_machine.specs.open_places.OpenMap.{StandBelow, facing, line_in, most_counted}
 use Rattle.rv_machine.specs.open_places.Reopening.{ClaimsUpTo, MayReopen, MayResume}
 

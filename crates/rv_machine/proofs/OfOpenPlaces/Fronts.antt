@@ -9,10 +9,10 @@ use Rattle.rv_session.specs.OwedDuty.{OwedDuty}
 use Rattle.rv_dual.specs.Above.{first_above, is_above}
 use Rattle.rv_due.specs.Deadlines.{AllAbove, Deadline, Deadlines, IsLeastUntil}
 use Rattle.rv_due.proofs.Order.{by_moment_total}
-use Rattle.rv_state.specs.State.{OpenPlace, place_list, same_side}
-use Rattle.rv_state.proofs.Words.{cases_lt, none-some, same_Some}
-use Rattle.rv_state.specs.After.{deadline_of_place}
-use Rattle.rv_state.proofs.Filtered.{filter_get, find_get}
+use Rattle.rv_account.specs.state.State.{OpenPlace, place_list, same_side}
+use Rattle.rv_account.proofs.OfState.Words.{cases_lt, none-some, same_Some}
+use Rattle.rv_account.specs.state.After.{deadline_of_place}
+use Rattle.rv_account.proofs.OfState.Filtered.{filter_get, find_get}
 use Rattle.rv_model_queues.specs.Views.{WaitQueues, waiting_on}
 use Rattle.rv_machine.specs.open_places.OpenMap.{IsFirstDue, NeverDue, PlacesRise, due_in, duty_at, found_at}
 use Rattle.rv_machine.specs.open_places.OpenMap.{line_in, all_but, first_behind, without_limit}

@@ -12,10 +12,11 @@ use Rattle.rv_text.specs.Limits.{FitsSide}
 use Rattle.rv_session.specs.OwedDuty.{OwedDuty}
 use Rattle.rv_dual.specs.Offers.{place_of}
 use Rattle.rv_due.specs.Deadlines.{Deadlines}
-use Rattle.rv_state.specs.State.{OpenPlace, Waiter, place_list, same_side}
-use Rattle.rv_state.proofs.Words.{none-some, same_Some}
-use Rattle.rv_state.proofs.Filtered.{filter_get, find_get, get_filter, get_find, get_map, map_get, rises_left}
-use Rattle.rv_state.proofs.SideLines.{same_side_is, same_side_itself}
+use Rattle.rv_account.specs.state.State.{OpenPlace, Waiter, place_list, same_side}
+use Rattle.rv_account.proofs.OfState.Words.{none-some, same_Some}
+use Rattle.rv_account.proofs.OfState.Filtered.{filter_get, find_get, get_filter, get_find, get_map, map_get}
+use Rattle.rv_account.proofs.OfState.Filtered.{rises_left}
+use Rattle.rv_account.proofs.OfState.SideLines.{same_side_is, same_side_itself}
 use Rattle.rv_model_queues.specs.Parked.{AreParked}
 use Rattle.rv_model_queues.specs.Views.{WaitQueues, place_of_duty, waiting_on}
 use Rattle.rv_model_queues.specs.Meeting.{LeavesSide, StandsOn, Withdrew}

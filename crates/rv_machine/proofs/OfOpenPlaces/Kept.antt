@@ -10,11 +10,11 @@ use Rattle.std.specs.Ordering.{is_eq, match_ordering, nat_cmp}
 use Rattle.std.specs.declared.cmp.Ordering.{Ordering}
 use Rattle.std.specs.declared.cmp.Ordering.TheVariants.{Less, Equal, Greater}
 use Rattle.std.proofs.lemmas.Bool.Decides.{nat_tests}
-use Rattle.rv_state.specs.State.{OpenPlace}
+use Rattle.rv_account.specs.state.State.{OpenPlace}
 use Rattle.std.proofs.Common.{inl, inr}
 use Rattle.std.proofs.lemmas.List.{map-append}
-use Rattle.rv_state.proofs.Words.{none-some, same_Some}
-use Rattle.rv_state.proofs.Filtered.{append_get, rises_left}
+use Rattle.rv_account.proofs.OfState.Words.{none-some, same_Some}
+use Rattle.rv_account.proofs.OfState.Filtered.{append_get, rises_left}
 use Rattle.rv_machine.specs.open_places.OpenMap.{AreOpens, PlacesRise, StandBelow, StandUnderPlaces, found_at}
 use Rattle.rv_machine.specs.open_places.OpenMap.{all_but}
 

@@ -11,9 +11,9 @@ use Rattle.rv_text.specs.declared.call.Side.{Side}
 use Rattle.rv_text.specs.Limits.{FitsSide}
 use Rattle.rv_session.specs.OwedDuty.{OwedDuty}
 use Rattle.rv_due.specs.Deadlines.{Deadlines}
-use Rattle.rv_state.specs.State.{OpenPlace, place_list, same_side}
-use Rattle.rv_state.proofs.Filtered.{append_get}
-use Rattle.rv_state.proofs.SideLines.{same_side_itself}
+use Rattle.rv_account.specs.state.State.{OpenPlace, place_list, same_side}
+use Rattle.rv_account.proofs.OfState.Filtered.{append_get}
+use Rattle.rv_account.proofs.OfState.SideLines.{same_side_itself}
 use Rattle.rv_model_queues.specs.Meeting.{FindsNobody, StartsToWait}
 use Rattle.rv_model_queues.specs.Parked.{AreParked}
 use Rattle.rv_model_queues.specs.Views.{AreBelow, WaitQueues, waiting_on}

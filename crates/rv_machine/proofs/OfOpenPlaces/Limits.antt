@@ -14,12 +14,12 @@ use Rattle.std.proofs.lemmas.List.{append-nil}
 use Rattle.std.proofs.lemmas.List.Elements.{filter_map-append}
 use Rattle.rv_due.specs.Deadlines.{Deadline, by_moment}
 use Rattle.rv_due.proofs.Order.{by_moment_total, by_moment-IsAntisymmetric}
-use Rattle.rv_state.specs.State.{OpenPlace}
-use Rattle.rv_state.specs.After.{deadline_of_place}
-use Rattle.rv_state.proofs.Filtered.{any_get, filter_get, filter_map_get}
-use Rattle.rv_state.proofs.Filtered.{mapped_there}
+use Rattle.rv_account.specs.state.State.{OpenPlace}
+use Rattle.rv_account.specs.state.After.{deadline_of_place}
+use Rattle.rv_account.proofs.OfState.Filtered.{any_get, filter_get, filter_map_get}
+use Rattle.rv_account.proofs.OfState.Filtered.{mapped_there}
 use Rattle.std.proofs.lemmas.Bool.{eq-eqb}
-use Rattle.rv_state.proofs.Words.{cons_option}
+use Rattle.rv_account.proofs.OfState.Words.{cons_option}
 use Rattle.rv_machine.specs.open_places.OpenMap.{deadlines_in, with_limit, all_but, without_limit}
 use Rattle.rv_machine.proofs.OfOpenPlaces.Parted.{PartedAt}
 

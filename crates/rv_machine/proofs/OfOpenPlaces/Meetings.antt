@@ -10,8 +10,8 @@ use Rattle.rv_text.specs.declared.call.Wait.{Wait}
 use Rattle.rv_session.specs.OwedDuty.{OwedDuty}
 use Rattle.rv_due.specs.Deadlines.{Deadlines}
 use Rattle.rv_account.specs.Calls.{opposite}
-use Rattle.rv_state.specs.State.{OpenPlace, same_side}
-use Rattle.rv_state.proofs.Words.{none-some, same_Some}
+use Rattle.rv_account.specs.state.State.{OpenPlace, same_side}
+use Rattle.rv_account.proofs.OfState.Words.{none-some, same_Some}
 use Rattle.rv_model_queues.specs.declared.outcome.Arrived.{Arrived}
 use Rattle.rv_model_queues.specs.Parked.{AreParked}
 use Rattle.rv_model_queues.specs.Meeting.{ArrivedOn, FindsNobody, HasRoomOn, MeetsOrWaits, OwnDuty}
@@ -21,7 +21,7 @@ use Rattle.rv_machine.specs.open_places.OpenMap.{StandBelow, facing, line_in, op
 use Rattle.rv_machine.specs.open_places.Indexed.{AreIndexed}
 use Rattle.rv_machine.proofs.OfOpenPlaces.Firsts.{FirstLeft, first_left, no_places}
 use Rattle.rv_machine.proofs.OfOpenPlaces.Indexing.{on_line, parked_on, side_or_not}
-use Rattle.rv_state.proofs.SideLines.{same_side_itself}
+use Rattle.rv_account.proofs.OfState.SideLines.{same_side_itself}
 
 -- ---- all stand below an arrival
 

@@ -15,8 +15,8 @@ use Rattle.rv_text.specs.Calls.{side_of, wait_of}
 use Rattle.rv_text.specs.Limits.{FitsSide}
 use Rattle.rv_session.specs.OwedDuty.{OwedDuty}
 use Rattle.rv_due.specs.Deadlines.{Deadlines}
-use Rattle.rv_state.specs.State.{OpenPlace, Waiter}
-use Rattle.rv_state.proofs.Words.{none-some}
+use Rattle.rv_account.specs.state.State.{OpenPlace, Waiter}
+use Rattle.rv_account.proofs.OfState.Words.{none-some}
 use Rattle.rv_model_queues.specs.declared.outcome.Arrived.{Arrived}
 use Rattle.rv_model_queues.specs.Meeting.{ArrivedOn, FindsNobody, MeetsFirst, MeetsOrWaits, OwnDuty}
 use Rattle.rv_model_queues.specs.Meeting.{PartnersDuty, StartsToWait}

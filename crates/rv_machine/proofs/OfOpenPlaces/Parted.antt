@@ -5,9 +5,9 @@ use Rattle.std.specs.Prelude.{filter}
 use Rattle.std.specs.List.{list_any}
 use Rattle.std.proofs.Common.{◌||◌, ◌&&◌}
 use Rattle.std.proofs.lemmas.Bool.Decides.{nat_tests}
-use Rattle.rv_state.specs.State.{OpenPlace}
-use Rattle.rv_state.specs.After.{but}
-use Rattle.rv_state.proofs.Words.{none-some, same_Some}
+use Rattle.rv_account.specs.state.State.{OpenPlace}
+use Rattle.rv_account.specs.state.After.{but}
+use Rattle.rv_account.proofs.OfState.Words.{none-some, same_Some}
 use Rattle.rv_machine.specs.open_places.OpenMap.{PlacesRise, found_at, all_but}
 use Rattle.rv_machine.proofs.OfOpenPlaces.Kept.{apart_from, filter_these, same_nat}
 

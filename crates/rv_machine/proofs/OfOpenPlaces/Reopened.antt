@@ -12,7 +12,7 @@ use Rattle.rv_session.specs.ClientOrder.{is_above}
 use Rattle.rv_session.specs.declared.client.ClientState.{ClientState}
 use Rattle.rv_session.specs.OwedDuty.{OwedDuty}
 use Rattle.rv_due.specs.Deadlines.{Deadlines}
-use Rattle.rv_state.specs.State.{OpenPlace, Waiter}
+use Rattle.rv_account.specs.state.State.{OpenPlace, Waiter}
 use Rattle.rv_model_queues.specs.Laying.{LaidOn}
 use Rattle.rv_model_queues.specs.Views.{WaitQueues}
 use Rattle.rv_machine.specs.open_places.OpenMap.{count_waiting, duty_at, with_limit}

@@ -13,7 +13,7 @@ use Rattle.rv_model_queues.specs.Meeting.{StaysBy}
 use Rattle.rv_text.specs.Limits.{FitsSide}
 use Rattle.rv_session.specs.OwedDuty.{OwedDuty}
 use Rattle.rv_due.specs.Deadlines.{Deadlines}
-use Rattle.rv_state.specs.State.{OpenPlace, place_list}
+use Rattle.rv_account.specs.state.State.{OpenPlace, place_list}
 use Rattle.rv_model_queues.specs.Parked.{AreParked}
 use Rattle.rv_model_queues.specs.Views.{WaitQueues, waiting_on}
 use Rattle.rv_machine.specs.open_places.OpenMap.{PlacesRise, due_in, duty_at, facing, found_at, deadlines_in}

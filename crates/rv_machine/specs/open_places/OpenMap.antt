@@ -11,9 +11,9 @@ use Rattle.rv_session.specs.OwedDuty.{OwedDuty}
 use Rattle.rv_account.specs.Calls.{opposite}
 use Rattle.rv_dual.specs.Above.{is_above}
 use Rattle.rv_due.specs.Deadlines.{Deadline, Deadlines, by_moment}
-pub use Rattle.rv_rules.specs.Reach.{most_counted}
-use Rattle.rv_state.specs.State.{OpenPlace, same_side}
-use Rattle.rv_state.specs.After.{deadline_of_place}
+pub use Rattle.rv_account.specs.rules.Reach.{most_counted}
+use Rattle.rv_account.specs.state.State.{OpenPlace, same_side}
+use Rattle.rv_account.specs.state.After.{deadline_of_place}
 
 -- each stands before those of greater places
 abbrev pub PlacesRise : List OpenPlace → Type 0

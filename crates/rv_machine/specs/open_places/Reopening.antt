@@ -11,7 +11,7 @@ use Rattle.rv_session.specs.Claims.{Claiming, place_unclaimed}
 use Rattle.rv_session.specs.ClientOrder.{is_above}
 use Rattle.rv_session.specs.Clients.{place_awaited}
 use Rattle.rv_account.specs.Calls.{opposite}
-use Rattle.rv_state.specs.State.{OpenPlace, Waiter}
+use Rattle.rv_account.specs.state.State.{OpenPlace, Waiter}
 use Rattle.rv_machine.specs.open_places.OpenMap.{PlacesRise, StandBelow, most_counted, opposed_in}
 
 -- the duty to settle the last request of a client that waits, if one does

@@ -19,7 +19,7 @@ pub(crate) struct OpenMap {
 impl Model for OpenMap {
     ghost use Rattle.std.specs.Prelude.{List};
     ghost use Rattle.std.specs.Map.{values_of};
-    ghost use Rattle.rv_state.specs.State.{OpenPlace};
+    ghost use Rattle.rv_account.specs.state.State.{OpenPlace};
     ghost use Rattle.rv_machine.specs.open_places.OpenMap.{AreOpens};
 
     ghost Value = { List OpenPlace };

@@ -48,7 +48,7 @@ pub struct MetPlace {
 
 impl Model for OpenTable {
     ghost use Rattle.std.specs.Prelude.{List};
-    ghost use Rattle.rv_state.specs.State.{OpenPlace};
+    ghost use Rattle.rv_account.specs.state.State.{OpenPlace};
     ghost use Rattle.rv_machine.specs.open_places.Indexed.{AreIndexed};
 
     ghost Value = { List OpenPlace };

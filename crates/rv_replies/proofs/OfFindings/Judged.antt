@@ -1,11 +1,12 @@
 -- What became of a request decides what its account says of a reply.
-use Rattle.rv_state.proofs.Words.{◌≡◌, ◌∙◌, Some, ap, arith, inl, inr, option_and_then, refl, subst, sym, ℕ}
-use Rattle.rv_state.proofs.Words.{Account, act_at, key_in, Arrive, arrives_once, Legal, Call}
-use Rattle.rv_state.specs.Agreement.{HasReplied}
+use Rattle.rv_account.proofs.OfState.Words.{◌≡◌, ◌∙◌, Some, ap, arith, inl, inr, option_and_then, refl}
+use Rattle.rv_account.proofs.OfState.Words.{subst, sym, ℕ}
+use Rattle.rv_account.proofs.OfState.Words.{Account, act_at, key_in, Arrive, arrives_once, Legal, Call}
+use Rattle.rv_account.specs.state.Agreement.{HasReplied}
 use Rattle.rv_replies.specs.findings.Fates.{GivesReply, IsFateOf}
 use Rattle.rv_replies.specs.declared.findings.fate.Fate.{Fate}
 use Rattle.std.specs.Prelude.{◌<◌}
-use Rattle.rv_state.proofs.OneTold.{one_call, one_reply, reply_or_waits}
+use Rattle.rv_account.proofs.OfState.OneTold.{one_call, one_reply, reply_or_waits}
 use Rattle.rv_replies.proofs.OfFindings.KeptTold.{gives_reply}
 use Rattle.rv_replies.specs.findings.Judging.{SaidInstead, TellsSame, kept_by}
 use Rattle.rv_replies.specs.findings.Findings.{CameOtherwise, IsFinding, MayBeTold, IsSaid, order_of}

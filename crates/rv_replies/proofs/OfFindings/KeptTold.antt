@@ -1,15 +1,15 @@
 -- A reply that is kept is had by its key, which has one; and the other way round where its request came with
 -- that call.
 use Rattle.std.specs.Prelude.{◌↔◌}
-use Rattle.rv_state.proofs.Words.{◌≡◌, ◌∙◌, ap, arith, inl, inr, subst, sym, ℕ, Some}
-use Rattle.rv_state.proofs.Words.{Account, Call, Key, Reply, act_at, Arrive, arrives_once, Legal}
+use Rattle.rv_account.proofs.OfState.Words.{◌≡◌, ◌∙◌, ap, arith, inl, inr, subst, sym, ℕ, Some}
+use Rattle.rv_account.proofs.OfState.Words.{Account, Call, Key, Reply, act_at, Arrive, arrives_once, Legal}
 use Rattle.rv_replies.specs.findings.Fates.{GivesReply}
 use Rattle.rv_replies.specs.findings.Findings.{IsFinding, IsKeptFinding}
 use Rattle.rv_replies.specs.declared.findings.Finding.{Finding}
 use Rattle.rv_replies.specs.declared.findings.Told.{Told}
 use Rattle.rv_replies.specs.declared.findings.Finding.TheVariants.{Kept, KeptUnseen}
-use Rattle.rv_rules.specs.Replies.{CancelledFirst, HasReply}
-use Rattle.rv_state.proofs.OneTold.{one_call, one_reply}
+use Rattle.rv_account.specs.rules.Replies.{CancelledFirst, HasReply}
+use Rattle.rv_account.proofs.OfState.OneTold.{one_call, one_reply}
 use Rattle.rv_replies.specs.findings.Laws.{CameWith, KeptIsTold, OneKept}
 
 pub gives_reply : (a : Account) (key : Key) (call : Call) (reply : Reply)

@@ -2,7 +2,7 @@
 use Rattle.std.proofs.Common.{◌≡◌, ◌&&◌, Bool, true, false, refl, nat_eq, subst}
 use Rattle.std.proofs.lemmas.Bool.{eq-eqb, eqb-true, false≢true}
 use Rattle.rv_text.specs.declared.message.Key.{Key}
-use Rattle.rv_rules.proofs.Deciding.{same_key}
+use Rattle.rv_account.proofs.OfRules.Deciding.{same_key}
 use Rattle.rv_replies.specs.findings.Names.{is_named, key_name}
 
 both : (a b : Bool) → a ≡ true → b ≡ true → (a && b) ≡ true

@@ -1,8 +1,8 @@
 -- One finding alone is told: of those that come last no two are so at once.
 use Rattle.std.proofs.lemmas.Bool.{cases_order}
-use Rattle.rv_state.proofs.Words.{◌≡◌, ◌∙◌, ap, arith, inl, inr, option_and_then, refl}
-use Rattle.rv_state.proofs.Words.{Account, key_in, Legal}
-use Rattle.rv_state.proofs.OneTold.{reply_or_waits}
+use Rattle.rv_account.proofs.OfState.Words.{◌≡◌, ◌∙◌, ap, arith, inl, inr, option_and_then, refl}
+use Rattle.rv_account.proofs.OfState.Words.{Account, key_in, Legal}
+use Rattle.rv_account.proofs.OfState.OneTold.{reply_or_waits}
 use Rattle.rv_replies.specs.findings.Fates.{NamesNowhere, WaitsWith}
 use Rattle.rv_replies.specs.findings.Findings.{CameOtherwise, GivesOther, IsSaid, order_of}
 use Rattle.rv_replies.specs.findings.Laws.{OneFinding}

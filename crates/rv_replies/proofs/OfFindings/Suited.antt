@@ -1,9 +1,11 @@
 -- What a legal account gives a request is a reply that its call may be told.
 use Rattle.std.specs.Prelude.{◌≤◌, zero, suc, List, [], ◌∷◌, length, slice_get}
-use Rattle.rv_state.proofs.Words.{◌≡◌, ◌∙◌, ◌⊎◌, ap, arith, inl, inr, option_and_then, refl, subst, sym, ℕ}
-use Rattle.rv_state.proofs.Words.{Option, Some, None, Account, act_at, Arrive, Entry, Legal, Call, Key, Reply}
-use Rattle.rv_state.proofs.Words.{Wait, call_in, option_map}
-use Rattle.rv_state.proofs.Filtered.{chained_there, mapped_there}
+use Rattle.rv_account.proofs.OfState.Words.{◌≡◌, ◌∙◌, ◌⊎◌, ap, arith, inl, inr, option_and_then, refl}
+use Rattle.rv_account.proofs.OfState.Words.{subst, sym, ℕ}
+use Rattle.rv_account.proofs.OfState.Words.{Option, Some, None, Account, act_at, Arrive, Entry, Legal, Call}
+use Rattle.rv_account.proofs.OfState.Words.{Key, Reply}
+use Rattle.rv_account.proofs.OfState.Words.{Wait, call_in, option_map}
+use Rattle.rv_account.proofs.OfState.Filtered.{chained_there, mapped_there}
 use Rattle.rv_text.specs.declared.answer.Reply.TheVariants as reply
 use Rattle.rv_text.specs.declared.call.Call.TheVariants as call
 use Rattle.rv_text.specs.declared.call.Wait.TheVariants.{Forever, Millis, Now}
@@ -12,9 +14,9 @@ use Rattle.rv_account.specs.Account.{item_at, items_at, limit_at, limit_in, part
 use Rattle.rv_account.specs.Calls.{limit_after, limit_of}
 use Rattle.rv_account.specs.declared.entry.Act.{Act}
 use Rattle.rv_account.specs.declared.entry.Act.TheVariants.{Cancel, Hello, Tick}
-use Rattle.rv_rules.specs.Replies.{RepliesAt, RepliesMet, RepliesUnmet, told_by}
-use Rattle.rv_rules.specs.Waiting.{EndsWait, HasElapsed}
-use Rattle.rv_state.specs.resume.Suiting.{EndsUnmet, SuitsCall, TellsReceipt}
+use Rattle.rv_account.specs.rules.Replies.{RepliesAt, RepliesMet, RepliesUnmet, told_by}
+use Rattle.rv_account.specs.rules.Waiting.{EndsWait, HasElapsed}
+use Rattle.rv_account.specs.state.resume.Suiting.{EndsUnmet, SuitsCall, TellsReceipt}
 use Rattle.rv_text.specs.declared.version.Version.TheVariants.{One, Two}
 use Rattle.rv_replies.specs.findings.Findings.{MayBeTold}
 use Rattle.rv_replies.specs.findings.Laws.{GivenMayBeTold}

@@ -6,8 +6,8 @@ use Rattle.rv_text.specs.declared.answer.Reply.{Reply}
 use Rattle.rv_text.specs.declared.answer.Reply.TheVariants.{Cancelled}
 use Rattle.rv_account.specs.Account.{key_at}
 use Rattle.rv_account.specs.declared.entry.Entry.{Entry}
-use Rattle.rv_rules.specs.Replies.{CancelledFirst}
-use Rattle.rv_state.specs.Agreement.{HasReplied, WaitsThere}
+use Rattle.rv_account.specs.rules.Replies.{CancelledFirst}
+use Rattle.rv_account.specs.state.Agreement.{HasReplied, WaitsThere}
 use Rattle.rv_replies.specs.declared.findings.fate.Fate.{Fate}
 use Rattle.rv_replies.specs.declared.findings.fate.Fate.TheVariants.{CancelledUnseen, RepliedTo, Unnamed}
 use Rattle.rv_replies.specs.declared.findings.fate.Fate.TheVariants.{Waits}

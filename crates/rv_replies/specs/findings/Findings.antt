@@ -9,9 +9,9 @@ use Rattle.rv_text.specs.declared.version.Version.TheVariants.{One, Two}
 use Rattle.rv_account.specs.Account.{Account, act_at}
 use Rattle.rv_account.specs.declared.entry.Act.TheVariants.{Arrive}
 use Rattle.rv_account.specs.declared.entry.Entry.{Entry}
-use Rattle.rv_state.specs.resume.Suiting.{SuitsCall}
-use Rattle.rv_rules.specs.Replies.{CancelledFirst}
-use Rattle.rv_state.specs.Agreement.{HasReplied}
+use Rattle.rv_account.specs.state.resume.Suiting.{SuitsCall}
+use Rattle.rv_account.specs.rules.Replies.{CancelledFirst}
+use Rattle.rv_account.specs.state.Agreement.{HasReplied}
 use Rattle.rv_replies.specs.findings.Fates.{GivesReply, NamesNowhere, WaitsWith}
 use Rattle.rv_replies.specs.declared.findings.Told.{Told}
 use Rattle.rv_replies.specs.declared.findings.Finding.{Finding}

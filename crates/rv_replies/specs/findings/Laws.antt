@@ -6,8 +6,8 @@ use Rattle.rv_text.specs.declared.answer.Reply.{Reply}
 use Rattle.rv_account.specs.Account.{Account, act_at}
 use Rattle.rv_account.specs.declared.entry.Act.TheVariants.{Arrive}
 use Rattle.rv_account.specs.declared.entry.Entry.{Entry}
-use Rattle.rv_rules.specs.Legal.{Legal}
-use Rattle.rv_rules.specs.Replies.{CancelledFirst, HasReply}
+use Rattle.rv_account.specs.rules.Legal.{Legal}
+use Rattle.rv_account.specs.rules.Replies.{CancelledFirst, HasReply}
 use Rattle.rv_replies.specs.findings.Fates.{GivesReply}
 use Rattle.rv_replies.specs.declared.findings.Told.{Told}
 use Rattle.rv_replies.specs.declared.findings.Finding.{Finding}

@@ -1,6 +1,6 @@
 //! The reply to a request whose wait an act ended.
 ghost use Rattle.std.specs.Prelude.{◌≡◌};
-ghost use Rattle.rv_rules.specs.Replies.{told_by};
+ghost use Rattle.rv_account.specs.rules.Replies.{told_by};
 
 use rv_account::Act;
 use rv_text::Reply;

@@ -3,7 +3,7 @@ ghost use Rattle.std.specs.Prelude.{◌≡◌, ◌↔◌, IsTrue};
 ghost use Rattle.rv_text.specs.declared.answer.Reply.TheVariants.{Cancelled};
 ghost use Rattle.rv_replies.specs.findings.Findings.{MayBeTold};
 
-use rv_state::resume::suits_call;
+use rv_account::state::resume::suits_call;
 use rv_text::{Call, Reply, Version};
 
 fn is_cancelled(reply: &Reply) -> bool

@@ -23,9 +23,9 @@ use Rattle.rv_run.specs.calls.CallRuns.{Stops, StopsText, TakesLines, TakesText,
 use Rattle.rv_run.specs.declared.calls.client.Halt.TheVariants as halt
 use Rattle.rv_run.specs.calls.Calling.{HaltsAt, HasNumbers, IsTurnedAway, IsWelcomed, SettlesLine}
 use Rattle.rv_run.specs.calls.Calling.{SettlesLines, StopsWithWord, key_behind}
-use Rattle.rv_lines.specs.Lines.{lines}
+use Rattle.rv_book.specs.lines.Lines.{lines}
 use Rattle.rv_run.specs.Input.{ReadsAll}
-use Rattle.rv_lines.specs.Lines.{printed_lines}
+use Rattle.rv_book.specs.lines.Lines.{printed_lines}
 use Rattle.rv_run.specs.calls.EndWord.{word_text}
 use Rattle.rv_run.proofs.Printing.{printed_append}
 use Rattle.rv_run.proofs.OfCalls.Settling.{key_behind_none, key_behind_on, key_next, settles_more}

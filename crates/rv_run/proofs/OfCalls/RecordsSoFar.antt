@@ -9,7 +9,7 @@ use Rattle.rv_frame.specs.Sink.{SinkTakes}
 use Rattle.rv_frame.specs.Source.{source_remaining}
 use Rattle.rv_client.specs.Link.{Link}
 use Rattle.rv_client.specs.Process.{Starting, first_key, key_after}
-use Rattle.rv_lines.specs.Lines.{lines, printed_lines}
+use Rattle.rv_book.specs.lines.Lines.{lines, printed_lines}
 use Rattle.rv_run.specs.Input.{ReadsAll}
 use Rattle.rv_run.specs.declared.fault.RunFault.TheVariants as run
 use Rattle.rv_run.specs.declared.output.OutputFault.{OutputFault}

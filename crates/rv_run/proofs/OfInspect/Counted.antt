@@ -10,8 +10,8 @@ use Rattle.rv_replies.specs.declared.records.Beside.{Beside}
 use Rattle.rv_replies.specs.declared.records.Line.{Line}
 use Rattle.rv_replies.specs.declared.records.Line.TheVariants as line
 use Rattle.rv_replies.specs.declared.records.Records.{Records}
-use Rattle.rv_rules.specs.Counting.{NumberOf}
-use Rattle.rv_rules.proofs.Counting.{number_push, same_number}
+use Rattle.rv_account.specs.rules.Counting.{NumberOf}
+use Rattle.rv_account.proofs.OfRules.Counting.{number_push, same_number}
 use Rattle.rv_run.specs.inspect.Report.{CountsBeside, StandsSo}
 use Rattle.rv_run.proofs.OfInspect.SameLine.{same_told}
 

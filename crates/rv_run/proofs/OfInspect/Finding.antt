@@ -5,8 +5,8 @@ use Rattle.std.specs.List.{All}
 use Rattle.std.proofs.lemmas.Option.{none-some, slice_get-get_or, slice_get_cases, slice_get_within}
 use Rattle.std.proofs.lemmas.List.Elements.{All-from_get_or, All-get_or}
 use Rattle.rv_account.specs.Account.{Account}
-use Rattle.rv_rules.specs.Legal.{Legal}
-use Rattle.rv_rules.proofs.Places.{get-append_cases}
+use Rattle.rv_account.specs.rules.Legal.{Legal}
+use Rattle.rv_account.proofs.OfRules.Places.{get-append_cases}
 use Rattle.rv_replies.specs.Standing.{HasNoted, IsLineFinding}
 use Rattle.rv_replies.specs.declared.findings.Finding.{Finding}
 use Rattle.rv_replies.specs.declared.findings.Finding.TheVariants.{Impossible, Kept, KeptUnseen, NoRecord}

@@ -12,10 +12,10 @@ use Rattle.rv_account.specs.Account.{Account}
 use Rattle.rv_replies.specs.declared.findings.Finding.{Finding}
 use Rattle.rv_frame.specs.declared.sink.Sink.{Sink}
 use Rattle.rv_frame.specs.Sink.{SinkTakes, sink_contents, sink_failed}
-use Rattle.rv_lines.specs.Lines.{printed_lines}
+use Rattle.rv_book.specs.lines.Lines.{printed_lines}
 use Rattle.rv_replies.specs.declared.records.Line.{Line}
 use Rattle.rv_replies.specs.declared.records.Records.{Records}
-use Rattle.rv_rules.proofs.Places.{get-append_cases}
+use Rattle.rv_account.proofs.OfRules.Places.{get-append_cases}
 use Rattle.rv_run.specs.Output.{StopsAfter}
 use Rattle.rv_run.proofs.Printing.{Appends-nothing, all_out, part_out, printed_append, promised_on}
 use Rattle.rv_run.specs.inspect.Texts.{IsLineText, IsOneText}

@@ -6,10 +6,10 @@ use Rattle.rv_text.specs.declared.version.Version.{Version}
 use Rattle.rv_text.specs.declared.version.Version.TheVariants.{One, Two}
 use Rattle.rv_text.specs.Bodies.{IsCallBody}
 use Rattle.rv_text.specs.Laws.{OneCall}
-use Rattle.rv_lines.specs.Number.{WritesNumber, value_of_digits}
+use Rattle.rv_book.specs.lines.Number.{WritesNumber, value_of_digits}
 use Rattle.rv_world.specs.declared.parts.event.Event.{Event}
 use Rattle.rv_world.specs.declared.parts.event.Event.TheVariants as event
-use Rattle.rv_lines.proofs.Cutting.{Lacks, cut_once}
+use Rattle.rv_book.proofs.OfLines.Cutting.{Lacks, cut_once}
 use Rattle.rv_run.specs.play.Reading.{SayRest, SayTwo, SaysEvent, SaysSession, word_of}
 use Rattle.rv_run.proofs.OfPlay.Saying.{identifier_lacks, not_two, number_lacks, word_lacks_space}
 

@@ -6,7 +6,7 @@ use Rattle.std.specs.Io.KnownBytes.{Appends, append_known}
 use Rattle.std.proofs.KnownBytes.{Appends-trans}
 use Rattle.rv_frame.specs.declared.sink.Sink.{Sink}
 use Rattle.rv_frame.specs.Sink.{SinkTakes, sink_contents, sink_failed}
-use Rattle.rv_lines.specs.Lines.{lines, printed_lines}
+use Rattle.rv_book.specs.lines.Lines.{lines, printed_lines}
 use Rattle.rv_run.specs.declared.output.Output.{Output}
 use Rattle.rv_run.specs.Output.{IsShort, StopsAfter, gathered_bytes, sent_before}
 use Rattle.rv_run.proofs.Printing.{Appends-nothing, all_out, part_out, printed_append}

@@ -12,7 +12,8 @@ use Rattle.rv_text.specs.declared.answer.Answer.TheVariants as answers
 use Rattle.rv_text.specs.declared.message.Key.{Key}
 use Rattle.rv_text.specs.Bodies.{HasBodyLength, answer_text}
 use Rattle.rv_text.specs.Limits.{FitsAnswer}
-use Rattle.rv_lines.proofs.OneLine.{answer_in_one_line, decimal_in_line, line_append, line_cons, word_in_line}
+use Rattle.rv_book.proofs.OfLines.OneLine.{answer_in_one_line, decimal_in_line, line_append, line_cons}
+use Rattle.rv_book.proofs.OfLines.OneLine.{word_in_line}
 use Rattle.rv_world.specs.declared.parts.packet.Packet.{Packet}
 use Rattle.rv_world.specs.parts.World.{World}
 use Rattle.rv_world.specs.declared.parts.event.Event.{Event}

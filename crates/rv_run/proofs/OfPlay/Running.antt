@@ -2,9 +2,9 @@
 use Rattle.std.proofs.Common.{◌≡◌, ◌++◌, ◌∷◌, [], ℕ, zero, suc, List, Some, Ok, Err, refl, ap, subst, ◌∙◌}
 use Rattle.std.specs.Prelude.{slice_get}
 use Rattle.std.proofs.lemmas.Option.{none-some, slice_get_within}
-use Rattle.rv_rules.proofs.Places.{get-append_within}
-use Rattle.rv_lines.specs.Lines.{printed_lines}
-use Rattle.rv_lines.proofs.Cutting.{lines_cut}
+use Rattle.rv_account.proofs.OfRules.Places.{get-append_within}
+use Rattle.rv_book.specs.lines.Lines.{printed_lines}
+use Rattle.rv_book.proofs.OfLines.Cutting.{lines_cut}
 use Rattle.rv_world.specs.declared.parts.event.Event.{Event}
 use Rattle.rv_world.specs.declared.parts.seen.Seen.{Seen}
 use Rattle.rv_world.specs.declared.parts.packet.Packet.{Packet}

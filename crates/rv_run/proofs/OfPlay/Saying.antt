@@ -10,14 +10,14 @@ use Rattle.rv_json.specs.declared.fault.TextFault.{TextFault}
 use Rattle.rv_json.specs.declared.fault.TextFault.TheVariants as text
 use Rattle.rv_text.specs.Bodies.{Decodes, IsCallBody}
 use Rattle.rv_text.specs.Limits.{FitsIdentifier}
-use Rattle.rv_lines.specs.Faults.{line_fault}
-use Rattle.rv_lines.specs.declared.fault.LineFault.TheVariants as line
-use Rattle.rv_lines.specs.Number.{WritesIdentifier, WritesNumber}
+use Rattle.rv_book.specs.lines.Faults.{line_fault}
+use Rattle.rv_book.specs.declared.lines.fault.LineFault.TheVariants as line
+use Rattle.rv_book.specs.lines.Number.{WritesIdentifier, WritesNumber}
 use Rattle.rv_world.specs.declared.parts.event.Event.{Event}
 use Rattle.rv_world.specs.declared.parts.event.Event.TheVariants as event
 use Rattle.rv_world.specs.parts.Limits.{FitsEvent}
-use Rattle.rv_lines.proofs.Cutting.{Lacks, cut_once, digits_lack_space, not_lacking}
-use Rattle.rv_lines.proofs.OneLine.{greater_lack}
+use Rattle.rv_book.proofs.OfLines.Cutting.{Lacks, cut_once, digits_lack_space, not_lacking}
+use Rattle.rv_book.proofs.OfLines.OneLine.{greater_lack}
 use Rattle.rv_run.specs.play.Parts.{SaysAtMostBegin, SaysNoneOfOne, SaysParts}
 use Rattle.rv_run.specs.play.Reading.{SayRest, SayTwo, SaysEvent, SaysNoEvent, SaysSession, word_of}
 

@@ -2,9 +2,9 @@
 use Rattle.std.proofs.Common.{◌≡◌, ℕ, List, ◌∷◌, ◌++◌, sym, subst, ◌∙◌}
 use Rattle.rv_text.specs.declared.message.Message.{Message}
 use Rattle.rv_text.specs.Bodies.{IsMessageBody}
-use Rattle.rv_lines.proofs.Cutting.{cut_once, digits_lack_space}
+use Rattle.rv_book.proofs.OfLines.Cutting.{cut_once, digits_lack_space}
 use Rattle.rv_run.specs.turns.Lines.{IsBadLine}
-use Rattle.rv_lines.specs.Number.{WritesNumber}
+use Rattle.rv_book.specs.lines.Number.{WritesNumber}
 
 -- a line has one moment's digits and one body
 pub one_cut : (digits body digits' body' : List ℕ) (moment moment' : ℕ) → WritesNumber digits moment

@@ -2,7 +2,7 @@
 use Rattle.std.proofs.Common.{◌≡◌, ◌+◌, ◌-◌, ℕ, List, ◌∷◌, drop, length, length-append, arith, ap, sym}
 use Rattle.std.proofs.Common.{inl, inr, subst, ◌∙◌}
 use Rattle.std.proofs.Math.Seq.{drop-append-add, drop-length}
-use Rattle.rv_lines.specs.Lines.{BeginsWithLine}
+use Rattle.rv_book.specs.lines.Lines.{BeginsWithLine}
 
 -- what stands after the first line is the end of the bytes
 rest_is : (bytes line rest : List ℕ) → BeginsWithLine bytes line rest

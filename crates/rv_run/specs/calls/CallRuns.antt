@@ -13,9 +13,9 @@ use Rattle.rv_run.specs.declared.fault.RunFault.{RunFault}
 use Rattle.rv_run.specs.declared.fault.RunFault.TheVariants.{NoMemory, ReadFault, TooLong, WriteFault}
 use Rattle.rv_run.specs.declared.calls.end_word.EndWord.{EndWord}
 use Rattle.rv_run.specs.calls.Calling.{IsTurnedAway, IsWelcomed, SettlesLines, StopsWithWord, key_behind}
-use Rattle.rv_lines.specs.Lines.{lines}
+use Rattle.rv_book.specs.lines.Lines.{lines}
 use Rattle.rv_run.specs.Input.{ReadsAll}
-use Rattle.rv_lines.specs.Lines.{printed_lines}
+use Rattle.rv_book.specs.lines.Lines.{printed_lines}
 use Rattle.rv_run.specs.calls.EndWord.{word_text}
 
 -- ---- what came of the lines

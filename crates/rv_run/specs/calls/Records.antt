@@ -12,7 +12,7 @@ use Rattle.rv_frame.specs.declared.source.Source.{Source}
 use Rattle.rv_frame.specs.Source.{source_failed, source_remaining}
 use Rattle.rv_client.specs.Link.{Link}
 use Rattle.rv_client.specs.Process.{Starting}
-use Rattle.rv_lines.specs.Lines.{lines, printed_lines}
+use Rattle.rv_book.specs.lines.Lines.{lines, printed_lines}
 use Rattle.rv_run.specs.Input.{FoundTooLong, ReadsAll}
 use Rattle.rv_run.specs.declared.fault.RunFault.TheVariants as run
 use Rattle.rv_run.specs.declared.calls.CallSaid.{CallSaid}

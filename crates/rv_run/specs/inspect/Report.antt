@@ -9,7 +9,7 @@ use Rattle.rv_replies.specs.declared.findings.Told.{Told}
 use Rattle.rv_replies.specs.declared.findings.verdict.AccountFinding.{AccountFinding}
 use Rattle.rv_frame.specs.declared.sink.Sink.{Sink}
 use Rattle.rv_frame.specs.Sink.{SinkTakes, sink_failed}
-use Rattle.rv_lines.specs.Lines.{printed_lines}
+use Rattle.rv_book.specs.lines.Lines.{printed_lines}
 use Rattle.rv_replies.specs.Firsts.{StandsBeside}
 use Rattle.rv_replies.specs.Standing.{HasNoted, IsLineFinding}
 use Rattle.rv_replies.specs.declared.records.Beside.{Beside}
@@ -17,8 +17,8 @@ use Rattle.rv_replies.specs.declared.records.Beside.TheVariants.{Differs, Repeat
 use Rattle.rv_replies.specs.declared.records.Line.{Line}
 use Rattle.rv_replies.specs.declared.records.Line.TheVariants as line
 use Rattle.rv_replies.specs.declared.records.Records.{Records}
-use Rattle.rv_rules.specs.Counting.{NumberOf}
-use Rattle.rv_rules.specs.Legal.{Legal}
+use Rattle.rv_account.specs.rules.Counting.{NumberOf}
+use Rattle.rv_account.specs.rules.Legal.{Legal}
 use Rattle.rv_run.specs.declared.fault.RunFault.{RunFault}
 use Rattle.rv_run.specs.declared.fault.RunFault.TheVariants.{NoMemory, ReadFault, TooLong, WriteFault}
 use Rattle.rv_run.specs.inspect.Lines.{SaysFate, beside_lines, count_lines, finding_text, verdict_lines}

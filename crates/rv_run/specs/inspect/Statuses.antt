@@ -8,7 +8,7 @@ use Rattle.rv_replies.specs.declared.findings.verdict.AccountFinding.{AccountFin
 use Rattle.rv_replies.specs.Standing.{HasNoted, IsLineFinding}
 use Rattle.rv_replies.specs.declared.records.Line.{Line}
 use Rattle.rv_replies.specs.declared.records.Records.{Records}
-use Rattle.rv_rules.specs.Legal.{Legal}
+use Rattle.rv_account.specs.rules.Legal.{Legal}
 
 -- the account keeps the line
 abbrev pub IsLineKept : Account → Line → Type 0

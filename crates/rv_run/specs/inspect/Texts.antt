@@ -6,7 +6,7 @@ use Rattle.rv_replies.specs.declared.findings.Finding.{Finding}
 use Rattle.rv_replies.specs.declared.findings.Finding.TheVariants.{Impossible, Kept, KeptUnseen, NoRecord}
 use Rattle.rv_replies.specs.declared.findings.Finding.TheVariants.{NoRequest, OtherCall, OtherEpoch}
 use Rattle.rv_replies.specs.declared.findings.Finding.TheVariants.{OtherReply, Waiting}
-use Rattle.rv_lines.specs.Lines.{printed_lines}
+use Rattle.rv_book.specs.lines.Lines.{printed_lines}
 use Rattle.rv_replies.specs.Standing.{HasNoted}
 use Rattle.rv_replies.specs.declared.records.Line.{Line}
 use Rattle.rv_replies.specs.declared.records.Records.{Records}

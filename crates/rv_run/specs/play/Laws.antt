@@ -1,7 +1,7 @@
 -- Laws of plays.
 use Rattle.std.specs.Prelude.{ℕ, List, Ok, Err, [], ◌∷◌, ◌++◌, ◌≡◌}
 use Rattle.std.specs.List.{Contains}
-use Rattle.rv_lines.specs.Lines.{lines, printed_lines}
+use Rattle.rv_book.specs.lines.Lines.{lines, printed_lines}
 use Rattle.rv_world.specs.declared.parts.event.Event.{Event}
 use Rattle.rv_world.specs.parts.Headline.{Headline}
 use Rattle.rv_world.specs.parts.Runs.{Runs}

@@ -5,7 +5,7 @@ use Rattle.rv_frame.specs.declared.sink.Sink.{Sink}
 use Rattle.rv_frame.specs.declared.source.Source.{Source}
 use Rattle.rv_frame.specs.Sink.{SinkTakes, sink_failed}
 use Rattle.rv_frame.specs.Source.{source_failed, source_remaining}
-use Rattle.rv_lines.specs.Lines.{lines, printed_lines}
+use Rattle.rv_book.specs.lines.Lines.{lines, printed_lines}
 use Rattle.rv_run.specs.Input.{ReadsAll}
 use Rattle.rv_run.specs.declared.fault.RunFault.{RunFault}
 use Rattle.rv_run.specs.declared.fault.RunFault.TheVariants.{NoMemory, ReadFault, TooLong, WriteFault}

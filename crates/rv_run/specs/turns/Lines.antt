@@ -2,8 +2,8 @@
 use Rattle.std.specs.Prelude.{ℕ, List, ◌∷◌, ◌++◌, ◌≡◌}
 use Rattle.rv_text.specs.declared.message.Message.{Message}
 use Rattle.rv_text.specs.Bodies.{HasBodyLength, IsMessageBody}
-pub use Rattle.rv_lines.specs.Lines.{lines}
-use Rattle.rv_lines.specs.Number.{IsDigits, WritesNumber}
+pub use Rattle.rv_book.specs.lines.Lines.{lines}
+use Rattle.rv_book.specs.lines.Number.{IsDigits, WritesNumber}
 
 -- the line is the digits of a moment, one space (32) and a body of the message
 pub record ReadsLine (line : List ℕ) (moment : ℕ) (message : Message) : Type 0 where

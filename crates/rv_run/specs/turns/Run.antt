@@ -6,7 +6,7 @@ use Rattle.rv_text.specs.declared.message.Message.{Message}
 use Rattle.rv_text.specs.Bodies.{answer_text, refused_text}
 use Rattle.rv_account.specs.Account.{Account}
 use Rattle.rv_book.specs.Steps.{Next}
-pub use Rattle.rv_lines.specs.Lines.{printed_lines}
+pub use Rattle.rv_book.specs.lines.Lines.{printed_lines}
 use Rattle.rv_run.specs.turns.Lines.{HasForm, IsBadLine, ReadsLine, lines}
 
 -- the account of an epoch that was opened at this moment, with no entry yet

@@ -9,7 +9,7 @@ ghost use Rattle.rv_run.specs.play.Turns.{refusal_number};
 
 use crate::fault::RunFault;
 use crate::play::event::read_event;
-use rv_lines::LineFault;
+use rv_book::lines::LineFault;
 use rv_text::{NoMemory, encode_answer};
 use rv_world::{Event, Seen, World, WorldRefusal};
 use std::alloc::Global;

@@ -1,9 +1,9 @@
 //! Reads the moment and the message that a line of the book's input says.
 ghost use Rattle.std.specs.Prelude.{◌≡◌, ◌∷◌, ◌++◌, ℕ, List, None, IfSome, IfOk, Err};
 ghost use Rattle.rv_run.specs.turns.Lines.{HasForm, IsBadLine, ReadsLine};
-ghost use Rattle.rv_lines.specs.Number.{WritesNumber};
+ghost use Rattle.rv_book.specs.lines.Number.{WritesNumber};
 
-use rv_lines::{LineFault, cut_at, read_number};
+use rv_book::lines::{LineFault, cut_at, read_number};
 use rv_text::{Message, decode_message};
 use std::alloc::Global;
 

@@ -13,8 +13,8 @@ use crate::output::{Output, OutputFault};
 use crate::turns::turn::answer_line;
 use crate::turns::unanswered::Unanswered;
 use rv_book::Book;
+use rv_book::lines::first_line;
 use rv_frame::{Sink, Source};
-use rv_lines::first_line;
 use std::alloc::Global;
 use std::io::{Read, Write};
 

@@ -7,8 +7,8 @@ ghost use Rattle.rv_run.specs.turns.Body.{HasTextOfBody, body_text};
 ghost use Rattle.rv_run.specs.turns.Run.{AnswersLine, AnswersMessage};
 
 use crate::turns::line::read_line;
+use rv_book::lines::LineFault;
 use rv_book::{Book, Verdict};
-use rv_lines::LineFault;
 use rv_text::{Message, NoMemory, bad_text_body, encode_answer, no_memory_body};
 use std::alloc::Global;
 

@@ -9,15 +9,16 @@ use Rattle.rv_text.specs.declared.answer.Refusal.{Refusal}
 use Rattle.rv_text.specs.declared.answer.Answer.TheVariants.{Refused, Replied, Waiting, Welcome}
 use Rattle.rv_account.specs.Account.{act_at, just, with_entry}
 use Rattle.rv_book.specs.Legal.{WaitsUnder}
-use Rattle.rv_rules.specs.Steps.{Answers, EntersOrNoMemory, KeyLines, NextAtUnder, PlaceLine, PlacesFullDue}
-use Rattle.rv_rules.specs.Steps.{RefuseOr, Refuses, Replies}
-use Rattle.rv_rules.proofs.Growing.{act_read, reads_back}
-use Rattle.rv_rules.proofs.Legality.{follows_itself}
-use Rattle.rv_rules.proofs.Lines.{RefuseOr-elim, WhereElse-elim}
-use Rattle.rv_rules.proofs.Naming.{first_among}
-use Rattle.rv_rules.proofs.StepLeaves.{own_act}
-use Rattle.rv_state.proofs.StateLaws.{steps_move_under}
-use Rattle.rv_state.proofs.ToldCancelled.{waiting_replies}
+use Rattle.rv_account.specs.rules.Steps.{Answers, EntersOrNoMemory, KeyLines, NextAtUnder, PlaceLine}
+use Rattle.rv_account.specs.rules.Steps.{PlacesFullDue}
+use Rattle.rv_account.specs.rules.Steps.{RefuseOr, Refuses, Replies}
+use Rattle.rv_account.proofs.OfRules.Growing.{act_read, reads_back}
+use Rattle.rv_account.proofs.OfRules.Legality.{follows_itself}
+use Rattle.rv_account.proofs.OfRules.Lines.{RefuseOr-elim, WhereElse-elim}
+use Rattle.rv_account.proofs.OfRules.Naming.{first_among}
+use Rattle.rv_account.proofs.OfRules.StepLeaves.{own_act}
+use Rattle.rv_account.proofs.OfState.StateLaws.{steps_move_under}
+use Rattle.rv_account.proofs.OfState.ToldCancelled.{waiting_replies}
 use Rattle.rv_text.specs.declared.answer.Reply.TheVariants as reply
 use Rattle.rv_account.specs.declared.entry.Act.TheVariants as act
 

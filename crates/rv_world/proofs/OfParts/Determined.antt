@@ -13,7 +13,7 @@ use Rattle.rv_world.proofs.OfParts.Words.{with_message, start_of, Elapses, Happe
 use Rattle.rv_world.proofs.OfParts.Words.{TimePasses, Under, by_a_book}
 use Rattle.std.specs.Prelude.{slice_get}
 use Rattle.std.proofs.lemmas.Bool.{cases_eq}
-use Rattle.rv_state.proofs.OneStep.{one_next_under, one_ticked}
+use Rattle.rv_account.proofs.OfState.OneStep.{one_next_under, one_ticked}
 use Rattle.rv_client.specs.Process.{Settles}
 use Rattle.rv_client.proofs.OneOutcome.{one_outcome}
 use Rattle.rv_world.specs.parts.Events.{Begins, Crashes, EventComesToUnder, IsReady, IsEventRefused}

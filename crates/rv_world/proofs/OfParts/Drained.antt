@@ -11,8 +11,8 @@ use Rattle.rv_account.specs.Calls.{Stays}
 use Rattle.rv_account.proofs.Items.{item_among}
 use Rattle.rv_book.specs.Replies.{Drains}
 use Rattle.rv_book.proofs.Drains.{has_items, items_count}
-use Rattle.rv_rules.proofs.Keys.{act_called}
-use Rattle.rv_rules.proofs.OnePartner.{goes_unnamed}
+use Rattle.rv_account.proofs.OfRules.Keys.{act_called}
+use Rattle.rv_account.proofs.OfRules.OnePartner.{goes_unnamed}
 use Rattle.rv_world.specs.parts.Headline.{HandsOverAt, IsToldAmong}
 
 -- ---- the entry of a drain

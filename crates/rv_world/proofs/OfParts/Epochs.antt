@@ -4,7 +4,7 @@ use Rattle.rv_world.proofs.OfParts.Words.{ap, subst, arith, Contains, slice_get,
 use Rattle.rv_world.proofs.OfParts.Words.{Call, Account, Legal, get-append_cases, World, accounts}
 use Rattle.rv_world.proofs.OfParts.Words.{empty_account, WasAsked, ArrivesAt}
 use Rattle.std.proofs.lemmas.Bool.{cases_order}
-use Rattle.rv_rules.proofs.Places.{get-append, get-append_end, within}
+use Rattle.rv_account.proofs.OfRules.Places.{get-append, get-append_end, within}
 use Rattle.rv_world.specs.parts.Headline.{LegalAccounts}
 use Rattle.rv_world.specs.parts.Sound.{EpochsRise}
 use Rattle.rv_world.proofs.OfParts.Listing.{place_of, stands_at}

@@ -14,10 +14,10 @@ use Rattle.std.specs.Prelude.{slice_get}
 use Rattle.std.proofs.lemmas.Bool.{cases_lt}
 use Rattle.std.proofs.lemmas.List.{append_cancel_left, length-append}
 use Rattle.rv_text.specs.declared.answer.Refusal.{Refusal}
-use Rattle.rv_rules.proofs.Deciding.{key_or_other}
-use Rattle.rv_state.proofs.DueDecided.{same_version}
-use Rattle.rv_state.proofs.CanEnter.{next_exists_under}
-use Rattle.rv_state.proofs.StateLaws.{ticks_step}
+use Rattle.rv_account.proofs.OfRules.Deciding.{key_or_other}
+use Rattle.rv_account.proofs.OfState.DueDecided.{same_version}
+use Rattle.rv_account.proofs.OfState.CanEnter.{next_exists_under}
+use Rattle.rv_account.proofs.OfState.StateLaws.{ticks_step}
 use Rattle.rv_client.specs.Process.{SaysNothingFinal}
 use Rattle.rv_world.specs.parts.Events.{next_answer, next_message}
 use Rattle.rv_world.specs.parts.Laws.{CanStepUnder, SentNoMemory, StepsExistUnder, TimeCanPass}

@@ -14,10 +14,10 @@ use Rattle.std.proofs.lemmas.Bool.{ltb-true}
 use Rattle.rv_text.specs.Limits.{FitsAnswer, FitsIdentifier, FitsKey, FitsMessage}
 use Rattle.rv_book.specs.Limits.{FitsAccount}
 use Rattle.rv_book.specs.Waiting.{Waiting}
-use Rattle.rv_rules.proofs.Counting.{number_below}
-use Rattle.rv_rules.proofs.FewClients.{few_none}
-use Rattle.rv_rules.proofs.WaitingBehind.{waiting_below}
-use Rattle.rv_rules.specs.StepLimits.{max_clients}
+use Rattle.rv_account.proofs.OfRules.Counting.{number_below}
+use Rattle.rv_account.proofs.OfRules.FewClients.{few_none}
+use Rattle.rv_account.proofs.OfRules.WaitingBehind.{waiting_below}
+use Rattle.rv_account.specs.rules.StepLimits.{max_clients}
 use Rattle.rv_text.specs.Members.{max_identifier}
 use Rattle.rv_world.specs.parts.Events.{IsTold, ReachesServer}
 use Rattle.rv_world.specs.parts.Limits.{FitsEvent}

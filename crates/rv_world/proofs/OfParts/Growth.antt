@@ -10,7 +10,7 @@ use Rattle.rv_world.proofs.OfParts.Words.{TimePasses, Under, by_a_book}
 use Rattle.std.proofs.Common.{append-nil}
 use Rattle.std.proofs.lemmas.List.{append_assoc}
 use Rattle.rv_account.specs.Account.{Extends}
-use Rattle.rv_state.proofs.Extending.{extends_itself, extends_on, steps_extend_under, ticks_extend}
+use Rattle.rv_account.proofs.OfState.Extending.{extends_itself, extends_on, steps_extend_under, ticks_extend}
 use Rattle.rv_world.specs.parts.Events.{ReachesServerUnder}
 use Rattle.rv_world.specs.parts.Headline.{GoesOn, IsExtended}
 use Rattle.rv_world.proofs.OfParts.AsHappenings.{runs_happen}

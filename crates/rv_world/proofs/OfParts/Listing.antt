@@ -3,7 +3,7 @@ use Rattle.rv_world.proofs.OfParts.Words.{◌≡◌, ◌∷◌, ◌++◌, ◌∙
 use Rattle.rv_world.proofs.OfParts.Words.{Contains, slice_get, Contains-append_left, none-some, Key}
 use Rattle.rv_world.proofs.OfParts.Words.{get-append_cases, HasEachKeyOnce}
 use Rattle.std.proofs.lemmas.Option.{get_or_from_slice_get, slice_get-get_or}
-use Rattle.rv_rules.proofs.Places.{within}
+use Rattle.rv_account.proofs.OfRules.Places.{within}
 use Rattle.rv_world.specs.parts.Headline.{GoesOn}
 
 pub place_of : {X : Type 0} (xs : List X) (x : X) → Contains xs x → (i : ℕ) × (slice_get xs i ≡ Some x)

@@ -3,7 +3,7 @@ use Rattle.rv_world.proofs.OfParts.Words.{◌≡◌, ◌⊎◌, ◌∙◌, inl, 
 use Rattle.rv_world.proofs.OfParts.Words.{HasReply, World, IsHeld, WasAsked, HasEachKeyOnce, IsAnswered}
 use Rattle.rv_world.proofs.OfParts.Words.{OnlyGrows}
 use Rattle.rv_book.proofs.Staying.{replies_stay}
-use Rattle.rv_state.proofs.OneTold.{one_reply}
+use Rattle.rv_account.proofs.OfState.OneTold.{one_reply}
 use Rattle.rv_world.specs.parts.Headline.{IsReplyOf, LegalAccounts, NoTwoReplies}
 use Rattle.rv_world.proofs.OfParts.Listing.{still_contains}
 use Rattle.rv_text.specs.declared.answer.Answer.TheVariants as answers

@@ -12,11 +12,11 @@ use Rattle.rv_account.specs.Account.{key_at, key_in}
 use Rattle.rv_account.specs.Calls.{may_name, opposite}
 use Rattle.rv_book.specs.Replies.{Drains, GetsItem, RepliesAt, RepliesMet, RepliesUnmet, ToldStopped, told_by}
 use Rattle.rv_book.specs.Waiting.{Met, NamesPartner}
-use Rattle.rv_rules.proofs.Fronts.{read_whole}
-use Rattle.rv_rules.proofs.Growing.{act_read, call_read, read_there}
-use Rattle.rv_rules.proofs.Opposites.{opposite_back}
-use Rattle.rv_rules.proofs.OnePartner.{arrives_once, meets_one, partner_open}
-use Rattle.rv_state.proofs.OneTold.{one_taker}
+use Rattle.rv_account.proofs.OfRules.Fronts.{read_whole}
+use Rattle.rv_account.proofs.OfRules.Growing.{act_read, call_read, read_there}
+use Rattle.rv_account.proofs.OfRules.Opposites.{opposite_back}
+use Rattle.rv_account.proofs.OfRules.OnePartner.{arrives_once, meets_one, partner_open}
+use Rattle.rv_account.proofs.OfState.OneTold.{one_taker}
 use Rattle.rv_world.specs.parts.Headline.{IsNo, IsPair, IsReceipt, IsToldItem, NamesTaker}
 use Rattle.rv_world.proofs.OfParts.Drained.{told_among}
 use Rattle.rv_text.specs.declared.call.Call.TheVariants as call

@@ -9,9 +9,10 @@ use Rattle.rv_text.specs.Limits.{FitsAnswer, FitsMessage}
 use Rattle.rv_book.specs.Limits.{FitsAccount, FitsAct, FitsEntry}
 use Rattle.rv_book.specs.Steps.{Next, max_clients, max_entries, max_moment, own_moment}
 use Rattle.rv_book.proofs.Fitting.{step_fits}
-use Rattle.rv_rules.proofs.FewClients.{ClientsAtMost}
-use Rattle.rv_rules.proofs.RoomKept.{RoomAtMost, clients_behind, room_behind, ticked_clients, ticked_room}
-use Rattle.rv_rules.proofs.StepLeaves.{own_act}
+use Rattle.rv_account.proofs.OfRules.FewClients.{ClientsAtMost}
+use Rattle.rv_account.proofs.OfRules.RoomKept.{RoomAtMost, clients_behind, room_behind, ticked_clients}
+use Rattle.rv_account.proofs.OfRules.RoomKept.{ticked_room}
+use Rattle.rv_account.proofs.OfRules.StepLeaves.{own_act}
 use Rattle.rv_world.proofs.OfParts.Answered.{became_at, next_legal}
 use Rattle.rv_account.specs.declared.entry.Act.TheVariants as act
 

@@ -14,8 +14,8 @@ use Rattle.rv_world.proofs.OfParts.Words.{IsAnswered, OnlyGrows, Elapses, Happen
 use Rattle.rv_world.proofs.OfParts.Words.{TimePasses, Under, IsSoundWorld}
 use Rattle.std.specs.Prelude.{◌≢◌, if◌then◌else◌, nat_lt, slice_get}
 use Rattle.rv_account.specs.Account.{Extends}
-use Rattle.rv_state.proofs.Extending.{steps_extend_under, ticks_extend}
-use Rattle.rv_state.proofs.StateLaws.{ticks_move}
+use Rattle.rv_account.proofs.OfState.Extending.{steps_extend_under, ticks_extend}
+use Rattle.rv_account.proofs.OfState.StateLaws.{ticks_move}
 use Rattle.rv_text.specs.Members.{max_identifier}
 use Rattle.rv_world.specs.parts.Events.{IsNewest, IsTold}
 use Rattle.rv_world.specs.parts.Sound.{IsAskedFor, IsOwed, IsProcessOf, IsUnasked}

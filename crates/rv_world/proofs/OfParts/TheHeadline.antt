@@ -11,10 +11,10 @@ use Rattle.rv_text.specs.Calls.{side_of}
 use Rattle.rv_account.specs.Account.{act_at, key_in}
 use Rattle.rv_account.specs.Calls.{may_name, opposite}
 use Rattle.rv_book.specs.Replies.{GetsItem, RepliesAt, RepliesMet}
-use Rattle.rv_rules.proofs.CallKinds.{exchanges_item, gives_item}
-use Rattle.rv_rules.proofs.Keys.{act_called}
+use Rattle.rv_account.proofs.OfRules.CallKinds.{exchanges_item, gives_item}
+use Rattle.rv_account.proofs.OfRules.Keys.{act_called}
 use Rattle.rv_book.proofs.Leaving.{items_leave_in_order}
-use Rattle.rv_rules.proofs.OnePartner.{arrives_once}
+use Rattle.rv_account.proofs.OfRules.OnePartner.{arrives_once}
 use Rattle.rv_world.specs.parts.Headline.{Headline, HeadlineAnyhow, IsExchanged, IsAssigned, IsDrained}
 use Rattle.rv_world.specs.parts.Headline.{IsGiven, IsReceipt, IsReplyOf, NeverHandedOverAnyhow}
 use Rattle.rv_world.specs.parts.Headline.{OrderOfArrival, ReceivedMeansAssigned, TrueExchange}

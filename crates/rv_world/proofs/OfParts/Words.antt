@@ -17,10 +17,10 @@ pub use Rattle.rv_book.specs.Replies.{HasReply, Meet}
 pub use Rattle.rv_client.specs.Process.{Asking, EpochEnded, Hears, Idle, Ignored, New, Outcome, Outstanding}
 pub use Rattle.rv_client.specs.Process.{Process, Replaced, Settled, Starting, TurnedAway, Welcomed, cancel_of}
 pub use Rattle.rv_client.specs.Process.{first_key, hello_of, key_after, request_of}
-pub use Rattle.rv_rules.proofs.Numbers.{same_or_not}
-pub use Rattle.rv_rules.proofs.Places.{get-append_cases}
-pub use Rattle.rv_rules.specs.StepLimits.{StepLimits, book_limits}
-pub use Rattle.rv_rules.specs.Steps.{Adds, NextUnder, Ticks, step_moment}
+pub use Rattle.rv_account.proofs.OfRules.Numbers.{same_or_not}
+pub use Rattle.rv_account.proofs.OfRules.Places.{get-append_cases}
+pub use Rattle.rv_account.specs.rules.StepLimits.{StepLimits, book_limits}
+pub use Rattle.rv_account.specs.rules.Steps.{Adds, NextUnder, Ticks, step_moment}
 pub use Rattle.rv_text.specs.declared.answer.Answer.{Answer}
 pub use Rattle.rv_text.specs.declared.answer.Reply.{Reply}
 pub use Rattle.rv_text.specs.declared.call.Call.{Call}

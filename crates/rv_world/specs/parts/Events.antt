@@ -12,8 +12,8 @@ use Rattle.rv_text.specs.declared.answer.Answer.{Answer}
 use Rattle.rv_text.specs.declared.answer.Answer.TheVariants as answers
 use Rattle.rv_text.specs.declared.answer.Refusal.TheVariants as refusals
 use Rattle.rv_text.specs.declared.answer.Reply.{Reply}
-use Rattle.rv_rules.specs.StepLimits.{StepLimits, book_limits}
-use Rattle.rv_rules.specs.Steps.{NextUnder}
+use Rattle.rv_account.specs.rules.StepLimits.{StepLimits, book_limits}
+use Rattle.rv_account.specs.rules.Steps.{NextUnder}
 use Rattle.rv_book.specs.Verdicts.{HasText}
 use Rattle.rv_client.specs.Process.{Process, New, Idle, Outstanding, Starting, Asking}
 use Rattle.rv_client.specs.Process.{hello_of, request_of, cancel_of, Settles, Hears}

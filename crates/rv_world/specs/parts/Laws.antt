@@ -3,8 +3,8 @@ use Rattle.std.specs.Prelude.{◌≡◌, ◌≢◌, ◌↔◌, ◌≤◌, ◌++�
 use Rattle.std.specs.List.{Contains}
 use Rattle.rv_text.specs.declared.answer.Answer.TheVariants as answers
 use Rattle.rv_text.specs.declared.answer.Refusal.TheVariants as refusals
-use Rattle.rv_rules.specs.StepLimits.{StepLimits, book_limits}
-use Rattle.rv_rules.specs.Steps.{max_moment, own_moment}
+use Rattle.rv_account.specs.rules.StepLimits.{StepLimits, book_limits}
+use Rattle.rv_account.specs.rules.Steps.{max_moment, own_moment}
 use Rattle.rv_book.specs.Legal.{Legal}
 use Rattle.rv_world.specs.declared.parts.event.Event.{Event}
 use Rattle.rv_world.specs.declared.parts.packet.Packet.{Packet}

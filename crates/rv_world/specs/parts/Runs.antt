@@ -1,7 +1,7 @@
 -- Lists of events, as a book takes them; and lists of whatever happens.
 use Rattle.std.specs.Prelude.{◌≡◌, ◌⊎◌, ◌≤◌, ℕ, List, [], ◌∷◌, Some, map, slice_get, take}
-use Rattle.rv_rules.specs.StepLimits.{StepLimits, book_limits}
-use Rattle.rv_rules.specs.Steps.{Ticks, max_moment, own_moment}
+use Rattle.rv_account.specs.rules.StepLimits.{StepLimits, book_limits}
+use Rattle.rv_account.specs.rules.Steps.{Ticks, max_moment, own_moment}
 use Rattle.rv_world.specs.declared.parts.event.Event.{Event}
 use Rattle.rv_world.specs.declared.parts.seen.Seen.{Seen}
 use Rattle.rv_world.specs.declared.parts.seen.WorldRefusal.{WorldRefusal}

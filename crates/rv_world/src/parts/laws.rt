@@ -1,6 +1,6 @@
 //! Laws of events, of lists of events and of whatever happens: each function is its contract, over the
 //! definitions alone.
-ghost use Rattle.rv_rules.specs.StepLimits.{StepLimits};
+ghost use Rattle.rv_account.specs.rules.StepLimits.{StepLimits};
 ghost use Rattle.rv_world.specs.parts.Laws.{EventsHappen, HeadlineHolds, HeadlineHoldsAnyhow, OneRun};
 ghost use Rattle.rv_world.specs.parts.Laws.{OneRunAnyhow, OneStep, OneStepUnder, RunsOnlyGrow};
 ghost use Rattle.rv_world.specs.parts.Laws.{RunsOnlyGrowAnyhow, StepsExist, StepsExistUnder, TimeCanPass};

@@ -1,6 +1,6 @@
--- The law, as rv_state proves it of whatever limits.
-use Rattle.rv_rules.specs.StepLimits.{book_limits}
-use Rattle.rv_state.proofs.CanEnter.{hellos_can_enter_under}
+-- The law, as rv_account proves it of whatever limits.
+use Rattle.rv_account.specs.rules.StepLimits.{book_limits}
+use Rattle.rv_account.proofs.OfState.CanEnter.{hellos_can_enter_under}
 use Rattle.rv_book.proofs.laws.hellos_can_enter.Goals as goal
 
 pub returns : goal.returns

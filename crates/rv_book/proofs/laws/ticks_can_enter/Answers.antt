@@ -1,6 +1,6 @@
 -- The law, from the time-outs of a legal account at whatever moment is not before its own.
 use Rattle.rv_book.proofs.Words.{arith, step_moment}
-use Rattle.rv_state.proofs.StateLaws.{ticks_step}
+use Rattle.rv_account.proofs.OfState.StateLaws.{ticks_step}
 use Rattle.rv_book.proofs.laws.ticks_can_enter.Goals as goal
 
 pub returns : goal.returns

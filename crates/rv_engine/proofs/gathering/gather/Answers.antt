@@ -1,7 +1,7 @@
 -- One line more is gathered.
 use Rattle.std.proofs.Common.{ap, string_bytes, ◌+◌, ◌++◌, ◌∷◌, ◌∙◌, []}
 use Rattle.rv_account.specs.declared.entry.Entry.{Entry}
-use Rattle.rv_lines.specs.Written.{entry_text}
+use Rattle.rv_book.specs.lines.Written.{entry_text}
 use Rattle.rv_engine.proofs.Gathered.{gathered_next}
 use Rattle.rv_engine.proofs.gathering.gather.Goals as goal
 

@@ -3,7 +3,7 @@ use Rattle.std.proofs.Common.{◌≡◌, ◌≤◌, ◌+◌, ◌*◌, Some, leng
 use Rattle.rv_text.specs.declared.message.Key.{Key}
 use Rattle.rv_client.specs.Link.{link}
 use Rattle.rv_run.specs.calls.Calling.{HasNumbers}
-use Rattle.rv_lines.specs.Lines.{lines}
+use Rattle.rv_book.specs.lines.Lines.{lines}
 use Rattle.rv_run.proofs.OfCalls.CallsSoFar.{SoFar}
 use Rattle.rv_run.proofs.calls.call_lines.Given as goal
 

@@ -4,7 +4,7 @@ use Rattle.rv_client.specs.Link.{link}
 use Rattle.rv_client.specs.Process.{Starting}
 use Rattle.rv_run.specs.calls.CallRuns.{RunsCalls}
 use Rattle.rv_run.specs.calls.Calling.{WelcomesOrNot}
-use Rattle.rv_lines.specs.Lines.{lines}
+use Rattle.rv_book.specs.lines.Lines.{lines}
 use Rattle.rv_run.specs.declared.fault.RunFault.TheVariants.{NoMemory, WriteFault}
 use Rattle.rv_run.proofs.OfCalls.CallsSoFar.{no_read_fault, not_too_long, ran_ok, ran_to, runs_at_once}
 use Rattle.rv_run.proofs.calls.call_run.Goals as goal

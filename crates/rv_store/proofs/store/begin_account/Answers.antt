@@ -1,8 +1,8 @@
 -- An epoch that isn't greater is told as it is by the folder.
 use Rattle.std.proofs.Common.{Err, Ok, Result, ap}
 use Rattle.std.proofs.lemmas.Result.{err_from_is_err_and}
-use Rattle.rv_folder.specs.declared.beginning.BeginFault.{BeginFault}
-use Rattle.rv_folder.specs.declared.beginning.BeginFault.TheVariants as OfBegin
+use Rattle.rv_journal.specs.declared.folders.beginning.BeginFault.{BeginFault}
+use Rattle.rv_journal.specs.declared.folders.beginning.BeginFault.TheVariants as OfBegin
 use Rattle.rv_store.proofs.store.begin_account.Goals as goal
 
 abbrev told_by : {T : Type 0} → Result T BeginFault → BeginFault

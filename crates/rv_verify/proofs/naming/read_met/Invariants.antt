@@ -1,7 +1,7 @@
 -- None of the entries before met one, and the others are read of the rest.
 use Rattle.std.proofs.Common.{◌≡◌, ◌<◌, ℕ, List, Some, length}
 use Rattle.rv_account.specs.declared.entry.Entry.{Entry}
-use Rattle.rv_lines.specs.Lines.{lines}
+use Rattle.rv_book.specs.lines.Lines.{lines}
 use Rattle.rv_verify.specs.Naming.{AreReadAs}
 use Rattle.rv_verify.proofs.Again.{Again}
 use Rattle.rv_verify.proofs.naming.read_met.Given as goal

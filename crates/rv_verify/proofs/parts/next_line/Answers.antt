@@ -1,7 +1,7 @@
 -- A line that is begun with no bytes.
 use Rattle.std.proofs.Common.{◌≢◌, ◌++◌, List, ℕ, IfOk, subst, sym}
 use Rattle.std.proofs.lemmas.List.Elements.{All-nil}
-use Rattle.rv_lines.proofs.Cutting.{Lacks}
+use Rattle.rv_book.proofs.OfLines.Cutting.{Lacks}
 use Rattle.rv_verify.specs.Reading.{HasNextPart}
 use Rattle.rv_verify.proofs.parts.next_line.Goals as goal
 

@@ -1,6 +1,6 @@
 -- A piece is torn where it is read as no entry.
 use Rattle.rv_text.specs.Members.{max_identifier}
-use Rattle.rv_lines.specs.Reading.{ReadsEntryUpTo}
+use Rattle.rv_book.specs.lines.Reading.{ReadsEntryUpTo}
 use Rattle.rv_verify.proofs.Told.{read_there}
 use Rattle.rv_verify.proofs.torn.is_torn.Goals as goal
 

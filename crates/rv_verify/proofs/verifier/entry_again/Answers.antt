@@ -1,6 +1,6 @@
 -- A line is read as one entry.
 use Rattle.rv_text.specs.Members.{max_identifier}
-use Rattle.rv_lines.proofs.Entering.{entry_one}
+use Rattle.rv_book.proofs.OfLines.Entering.{entry_one}
 use Rattle.rv_verify.proofs.verifier.entry_again.Goals as goal
 
 pub returns-in-Ok : goal.returns-in-Ok

@@ -1,5 +1,5 @@
 use Rattle.rv_audit.proofs.Words.{◌∙◌, ap, sym}
-use Rattle.rv_state.specs.State.{place_list}
+use Rattle.rv_account.specs.state.State.{place_list}
 use Rattle.rv_audit.specs.Passed.{closed_by, passed_state}
 use Rattle.rv_audit.proofs.Passing.{gone_due, gone_partners, gone_places}
 use Rattle.rv_audit.proofs.front.Front.close_gone.Goals as goal

@@ -1,7 +1,7 @@
 -- An empty account with its machine is sound.
 use Rattle.std.proofs.Common.{◌≡◌, ◌≤◌, ◌∙◌, [], sym, ap, arith}
 use Rattle.rv_account.specs.Limits.{max_moment}
-use Rattle.rv_state.specs.State.{opening}
+use Rattle.rv_account.specs.state.State.{opening}
 use Rattle.rv_book.proofs.Opened.{opened_sound}
 use Rattle.rv_book.proofs.state.BookState.open.Goals as goal
 

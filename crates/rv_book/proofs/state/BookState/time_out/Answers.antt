@@ -1,6 +1,6 @@
 -- The machine's tick is that of the account.
 use Rattle.std.proofs.Common.{refl, subst, sym}
-use Rattle.rv_rules.specs.Steps.{Ticks}
+use Rattle.rv_account.specs.rules.Steps.{Ticks}
 use Rattle.rv_book.specs.Tables.{account_of}
 use Rattle.rv_book.proofs.Ticked.{ahead, quiet_then, still_ticks, ticks_there}
 use Rattle.rv_book.proofs.state.BookState.time_out.Goals as goal

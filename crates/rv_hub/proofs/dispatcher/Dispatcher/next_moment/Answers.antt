@@ -2,7 +2,7 @@
 use Rattle.std.proofs.Common.{◌≡◌, ◌∙◌, [], ℕ, IfNone, IfSome, ap, subst, sym}
 use Rattle.std.specs.Prelude.{min}
 use Rattle.std.proofs.lemmas.Option.{none-some}
-use Rattle.rv_state.specs.After.{due_at}
+use Rattle.rv_account.specs.state.After.{due_at}
 use Rattle.rv_machine.specs.Machines.{state_in}
 use Rattle.rv_hub.specs.dispatcher.Fields.{dispatcher_state}
 use Rattle.rv_hub.specs.dispatcher.Rest.{IsNextMoment}

@@ -1,6 +1,6 @@
 -- What was opened last is taken out again.
 use Rattle.std.proofs.Common.{◌∙◌, ap, List}
-use Rattle.rv_state.specs.State.{OpenPlace}
+use Rattle.rv_account.specs.state.State.{OpenPlace}
 use Rattle.rv_machine.specs.open_places.OpenMap.{all_but}
 use Rattle.rv_machine.proofs.OfOpenPlaces.Parking.{on_err_back, taken_back}
 use Rattle.rv_machine.proofs.open_places.table.lay.Goals as goal

@@ -1,9 +1,9 @@
 -- A client that is new waits nowhere.
 use Rattle.std.proofs.Common.{◌∙◌, ap, arith, sym, subst, refl}
 use Rattle.rv_session.specs.Clients.{ClientStates, fresh_state}
-use Rattle.rv_state.specs.After.{advanced}
-use Rattle.rv_state.specs.State.{State}
-use Rattle.rv_state.proofs.Words.{none-some}
+use Rattle.rv_account.specs.state.After.{advanced}
+use Rattle.rv_account.specs.state.State.{State}
+use Rattle.rv_account.proofs.OfState.Words.{none-some}
 use Rattle.rv_machine.specs.Machines.{state_in}
 use Rattle.rv_machine.specs.Numbering.{AreNumbered}
 use Rattle.rv_machine.specs.declared.tables.Holdings.{Holdings}

@@ -3,7 +3,7 @@ use Rattle.std.proofs.Common.{◌≡◌, ◌<◌, ◌+◌, ◌∙◌, ℕ, List,
 use Rattle.rv_text.specs.declared.call.Call.{Call}
 use Rattle.rv_text.specs.declared.message.Key.{Key}
 use Rattle.rv_machine.specs.open_places.OpenMap.{most_counted}
-use Rattle.rv_state.specs.State.{State}
+use Rattle.rv_account.specs.state.State.{State}
 use Rattle.rv_machine.specs.Arriving.{MayArrive}
 use Rattle.rv_machine.specs.Taking.{TakesAll}
 use Rattle.rv_machine.specs.declared.tables.Holdings.{Holdings}
@@ -20,7 +20,7 @@ use Rattle.rv_machine.proofs.Concluded.{asked_in, concluded_ready}
 use Rattle.rv_machine.proofs.Drained.{drains_by, is_known_still, next_there}
 use Rattle.rv_machine.proofs.Leaving.{arrives_as, concluded_now, copied_entry}
 use Rattle.rv_text.specs.Calls.{wait_of}
-use Rattle.rv_state.proofs.Resumed.Counts.{needs_one}
+use Rattle.rv_account.proofs.OfState.Resumed.Counts.{needs_one}
 use Rattle.rv_machine.proofs.tables.Holdings.drain.Goals as goal
 
 pub conclude-requires : goal.conclude-requires

@@ -1,6 +1,6 @@
 -- A tick ends all that is due, from an empty list.
 use Rattle.std.proofs.Common.{◌≤◌, sym, subst, arith}
-use Rattle.rv_state.specs.State.{State}
+use Rattle.rv_account.specs.state.State.{State}
 use Rattle.rv_machine.specs.Machines.{state_in}
 use Rattle.rv_machine.proofs.OutcomeMoves.{ticked_later, ticks_by}
 use Rattle.rv_machine.proofs.tables.Holdings.elapse.Goals as goal

@@ -3,11 +3,11 @@ use Rattle.std.proofs.Common.{◌≡◌, ◌≤◌, ◌∙◌, arith, ap, sym, s
 use Rattle.std.specs.FinMap.{FinMap, len}
 use Rattle.std.specs.Ordering.{nat_cmp}
 use Rattle.rv_machine.specs.open_places.Reopening.{MayResume}
-use Rattle.rv_state.specs.resume.Resuming.{most_resumed_clients}
-use Rattle.rv_state.proofs.Resumed.MapOf.{map_long}
-use Rattle.rv_state.specs.resume.Checking.{state_by}
+use Rattle.rv_account.specs.state.resume.Resuming.{most_resumed_clients}
+use Rattle.rv_account.proofs.OfState.Resumed.MapOf.{map_long}
+use Rattle.rv_account.specs.state.resume.Checking.{state_by}
 use Rattle.rv_session.specs.Clients.{ClientStates}
-use Rattle.rv_state.specs.State.{ClientState, State}
+use Rattle.rv_account.specs.state.State.{ClientState, State}
 use Rattle.rv_machine.specs.Machines.{IsConsistent}
 use Rattle.rv_machine.proofs.Resumed.{resumed_consistent, resumed_opens}
 use Rattle.rv_machine.proofs.tables.Holdings.holding.Goals as goal

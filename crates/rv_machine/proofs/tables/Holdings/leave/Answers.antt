@@ -7,7 +7,7 @@ use Rattle.rv_account.specs.Account.{entry}
 use Rattle.rv_machine.specs.Ending.{counted}
 use Rattle.rv_machine.proofs.Concluded.{asked_in, concluded_ready}
 use Rattle.rv_machine.proofs.Leaving.{arrives_as, concluded_now, copied_entry, leaves_arrived}
-use Rattle.rv_state.proofs.Resumed.Counts.{needs_one}
+use Rattle.rv_account.proofs.OfState.Resumed.Counts.{needs_one}
 use Rattle.rv_machine.proofs.tables.Holdings.leave.Goals as goal
 
 pub record-requires : goal.record-requires

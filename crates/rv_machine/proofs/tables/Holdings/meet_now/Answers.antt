@@ -10,7 +10,7 @@ use Rattle.rv_account.specs.declared.entry.Entry.{Entry}
 use Rattle.rv_account.specs.declared.entry.Act.TheVariants.{Arrive}
 use Rattle.rv_account.specs.Account.{entry}
 use Rattle.rv_account.specs.Calls.{opposite}
-use Rattle.rv_state.specs.After.{told_own}
+use Rattle.rv_account.specs.state.After.{told_own}
 use Rattle.rv_machine.specs.declared.tables.Holdings.{Holdings}
 use Rattle.rv_machine.specs.Arriving.{Arrives}
 use Rattle.rv_machine.specs.open_places.Indexed.{ClosesFirst}

@@ -2,7 +2,7 @@
 use Rattle.std.proofs.Common.{◌≡◌, ◌∙◌, Option, Some, None, IsSome, arith, sym, refl, subst}
 use Rattle.rv_session.specs.Clients.{place_waiting}
 use Rattle.rv_text.specs.declared.answer.Reply.TheVariants.{Cancelled}
-use Rattle.rv_state.specs.State.{ClientState}
+use Rattle.rv_account.specs.state.State.{ClientState}
 use Rattle.rv_machine.specs.Machines.{state_in}
 use Rattle.rv_machine.proofs.EndedLast.{found_waiting, idle_after, known_after, space_after, waits_for}
 use Rattle.rv_machine.proofs.EndedLast.{waits_in}

@@ -2,8 +2,8 @@
 use Rattle.std.proofs.Common.{◌≡◌, [], List, subst, sym}
 use Rattle.std.proofs.lemmas.Result.{IfOk-weaker, on_err_weaker}
 use Rattle.rv_text.specs.Calls.{side_of}
-use Rattle.rv_state.specs.State.{OpenPlace, State}
-use Rattle.rv_state.specs.After.{opened_by}
+use Rattle.rv_account.specs.state.State.{OpenPlace, State}
+use Rattle.rv_account.specs.state.After.{opened_by}
 use Rattle.rv_machine.specs.open_places.OpenMap.{opposed_in}
 use Rattle.rv_machine.proofs.RoomMade.{arrives_since, as_before_since, may_still, same_state}
 use Rattle.rv_machine.proofs.tables.Holdings.stay.Goals as goal

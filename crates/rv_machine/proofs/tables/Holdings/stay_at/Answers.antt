@@ -5,7 +5,7 @@ use Rattle.rv_session.specs.Clients.{ClientStates, place_awaited}
 use Rattle.rv_account.specs.declared.entry.Entry.{Entry}
 use Rattle.rv_account.specs.declared.entry.Act.TheVariants.{Arrive}
 use Rattle.rv_account.specs.Account.{entry}
-use Rattle.rv_state.specs.State.{OpenPlace}
+use Rattle.rv_account.specs.state.State.{OpenPlace}
 use Rattle.rv_machine.specs.declared.tables.Holdings.{Holdings}
 use Rattle.rv_machine.specs.Arriving.{Arrives, after_put}
 use Rattle.rv_machine.specs.open_places.Indexed.{ParksPlace}

@@ -6,7 +6,7 @@ use Rattle.rv_text.specs.declared.answer.Reply.{Reply}
 use Rattle.rv_text.specs.declared.message.Key.{Key}
 use Rattle.rv_text.specs.declared.version.Version.{Version}
 use Rattle.rv_session.specs.declared.client.ClientState.{ClientState}
-use Rattle.rv_state.specs.After.{receipt_of}
+use Rattle.rv_account.specs.state.After.{receipt_of}
 use Rattle.rv_machine.proofs.MetReplies.{some_receipt}
 use Rattle.rv_machine.proofs.TakenOne.{came_out, has_room, is_awaited, is_known, lay_ready, lay_taken}
 use Rattle.rv_machine.proofs.TakenOne.{waited_ready, waited_taken}

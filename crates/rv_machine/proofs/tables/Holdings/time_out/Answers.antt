@@ -3,7 +3,7 @@ use Rattle.std.proofs.Common.{◌∷◌, ◌∙◌, [], ap, arith, subst, sym}
 use Rattle.rv_account.specs.Account.{entry}
 use Rattle.rv_account.specs.declared.entry.Entry.{Entry}
 use Rattle.rv_account.specs.declared.entry.Act.TheVariants.{Tick}
-use Rattle.rv_state.specs.State.{State}
+use Rattle.rv_account.specs.state.State.{State}
 use Rattle.rv_machine.specs.Ending.{counted}
 use Rattle.rv_machine.specs.Ticking.{TimesOut}
 use Rattle.rv_machine.specs.declared.tables.Holdings.{Holdings}

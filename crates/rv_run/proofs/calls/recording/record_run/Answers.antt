@@ -2,7 +2,7 @@
 use Rattle.std.proofs.Common.{Err, List, Ok, subst, ℕ}
 use Rattle.rv_client.specs.Link.{link}
 use Rattle.rv_client.specs.Process.{Starting}
-use Rattle.rv_lines.specs.Lines.{lines}
+use Rattle.rv_book.specs.lines.Lines.{lines}
 use Rattle.rv_run.specs.calls.Calling.{WelcomesOrNot}
 use Rattle.rv_run.specs.calls.Records.{RecordsCalls, outlets}
 use Rattle.rv_run.proofs.OfCalls.RecordsSoFar.{recorded_run, records_at_once}

@@ -1,8 +1,8 @@
 -- The fields of a begin are cut in one way, and one that is refused for another cause than memory is no call.
 use Rattle.std.proofs.Common.{◌≡◌, None, arith, sym, ◌∙◌}
 use Rattle.std.proofs.lemmas.Result.{err_from_is_err_and}
-use Rattle.rv_lines.specs.Faults.{line_fault}
-use Rattle.rv_lines.specs.declared.fault.LineFault.TheVariants as line
+use Rattle.rv_book.specs.lines.Faults.{line_fault}
+use Rattle.rv_book.specs.declared.lines.fault.LineFault.TheVariants as line
 use Rattle.rv_run.proofs.OfPlay.Saying.{identifier_lacks, no_call, not_two, two_fields}
 use Rattle.rv_run.proofs.play.event.begin.Goals as goal
 

@@ -4,8 +4,8 @@ use Rattle.std.proofs.lemmas.Result.{err_from_is_err_and}
 use Rattle.rv_json.specs.declared.fault.TextFault.{TextFault}
 use Rattle.rv_json.specs.declared.fault.TextFault.TheVariants.{NoMemory, NotJson, NotMessage}
 use Rattle.rv_text.specs.declared.message.Message.{Message}
-use Rattle.rv_lines.specs.Faults.{line_fault}
-use Rattle.rv_lines.specs.declared.fault.LineFault.TheVariants as line
+use Rattle.rv_book.specs.lines.Faults.{line_fault}
+use Rattle.rv_book.specs.declared.lines.fault.LineFault.TheVariants as line
 use Rattle.rv_run.proofs.OfTurns.Cutting.{bad_body}
 use Rattle.rv_run.proofs.turns.line.read_line.Goals as goal
 

@@ -1,6 +1,6 @@
 -- Each line that is answered moves the run on, and a fault leaves the front of what it prints.
 use Rattle.std.proofs.Common.{length, arith, ap, refl, sym, subst, ◌∙◌}
-use Rattle.rv_lines.specs.Lines.{lines}
+use Rattle.rv_book.specs.lines.Lines.{lines}
 use Rattle.std.proofs.lemmas.Result.{err_from_is_err_and}
 use Rattle.rv_run.specs.turns.Run.{AnswersLine}
 use Rattle.rv_run.proofs.OfTurns.Ends.{kept_is}

@@ -3,7 +3,7 @@ use Rattle.std.proofs.Common.{◌≡◌, ◌≢◌, ◌∷◌, ◌++◌, ◌∙�
 use Rattle.std.proofs.Common.{inl, inr, is_some, rules, subst, sym, vec_len}
 use Rattle.std.proofs.lemmas.Bool.{eqb-true}
 use Rattle.std.proofs.lemmas.List.{nil_from_length}
-use Rattle.rv_lines.specs.Lines.{lines}
+use Rattle.rv_book.specs.lines.Lines.{lines}
 use Rattle.rv_verify.specs.Verdicts.{ReadsLongEntry}
 use Rattle.rv_verify.proofs.Running.{not_both}
 use Rattle.rv_verify.proofs.Closing.{found_empty, found_last, found_torn}

@@ -1,7 +1,7 @@
 -- A turn reads a line more, or finds the end.
 use Rattle.std.proofs.Common.{◌≡◌, ◌++◌, ◌∙◌, Some, ap, refl, subst, sym}
 use Rattle.std.proofs.lemmas.List.Elements.{All-nil}
-use Rattle.rv_lines.proofs.Cutting.{Lacks}
+use Rattle.rv_book.proofs.OfLines.Cutting.{Lacks}
 use Rattle.rv_verify.specs.Reading.{HasNextPart}
 use Rattle.rv_verify.specs.declared.parts.NextPart.{NextPart}
 use Rattle.rv_verify.proofs.Running.{not_both, runs_first, runs_on, runs_out, runs_to_fault}

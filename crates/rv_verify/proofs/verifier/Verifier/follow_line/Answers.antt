@@ -1,7 +1,7 @@
 -- A line is bad where it is read as no entry; else its entry is followed.
 use Rattle.std.proofs.Common.{◌≡◌, ◌+◌, Err, ap, refl, sym, ◌∙◌}
 use Rattle.std.proofs.lemmas.Result.{err_from_is_err_and}
-use Rattle.rv_lines.specs.declared.fault.LineFault.TheVariants as line
+use Rattle.rv_book.specs.declared.lines.fault.LineFault.TheVariants as line
 use Rattle.rv_verify.proofs.Passing.{goes_on}
 use Rattle.rv_verify.proofs.verifier.Verifier.follow_line.Goals as goal
 

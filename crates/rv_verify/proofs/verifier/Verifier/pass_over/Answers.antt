@@ -1,7 +1,7 @@
 -- A line is bad where it is read as no entry.
 use Rattle.std.proofs.Common.{◌≡◌, Err, ap, refl, sym, ◌∙◌}
 use Rattle.std.proofs.lemmas.Result.{err_from_is_err_and}
-use Rattle.rv_lines.specs.declared.fault.LineFault.TheVariants as line
+use Rattle.rv_book.specs.declared.lines.fault.LineFault.TheVariants as line
 use Rattle.rv_verify.proofs.verifier.Verifier.pass_over.Goals as goal
 
 pub returns-in_err-_entry-clause-bad : goal.returns-in_err-_entry-clause-bad

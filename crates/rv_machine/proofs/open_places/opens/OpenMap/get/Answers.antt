@@ -1,6 +1,6 @@
 -- A look-up by a place finds what is open there.
 use Rattle.std.proofs.Common.{◌∙◌, ap, List}
-use Rattle.rv_state.specs.State.{OpenPlace}
+use Rattle.rv_account.specs.state.State.{OpenPlace}
 use Rattle.rv_machine.specs.open_places.OpenMap.{found_at}
 use Rattle.rv_machine.proofs.OfOpenPlaces.Kept.{looked_up}
 use Rattle.rv_machine.proofs.open_places.opens.OpenMap.get.Goals as goal

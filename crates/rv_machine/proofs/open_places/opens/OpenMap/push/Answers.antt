@@ -1,6 +1,6 @@
 -- An insertion after all others adds to the list's end.
 use Rattle.std.proofs.Common.{◌++◌, ◌∷◌, ◌∙◌, [], ap, subst, sym, List}
-use Rattle.rv_state.specs.State.{OpenPlace}
+use Rattle.rv_account.specs.state.State.{OpenPlace}
 use Rattle.rv_machine.specs.open_places.OpenMap.{StandBelow}
 use Rattle.rv_machine.proofs.OfOpenPlaces.Kept.{more_open, more_values}
 use Rattle.rv_machine.proofs.open_places.opens.OpenMap.push.Goals as goal

@@ -1,6 +1,6 @@
 -- A removal leaves the others in the list.
 use Rattle.std.proofs.Common.{◌∙◌, ap, List}
-use Rattle.rv_state.specs.State.{OpenPlace}
+use Rattle.rv_account.specs.state.State.{OpenPlace}
 use Rattle.rv_machine.specs.open_places.OpenMap.{found_at, all_but}
 use Rattle.rv_machine.proofs.OfOpenPlaces.Kept.{less_open, looked_up, removed, values_is}
 use Rattle.rv_machine.proofs.open_places.opens.OpenMap.take.Goals as goal

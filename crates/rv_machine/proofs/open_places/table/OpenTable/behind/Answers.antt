@@ -1,6 +1,6 @@
 -- The first place of a line above another is that of its first there.
 use Rattle.std.proofs.Common.{◌∙◌, ap, sym, Bor, List, Option, option_map}
-use Rattle.rv_state.specs.State.{OpenPlace}
+use Rattle.rv_account.specs.state.State.{OpenPlace}
 use Rattle.rv_machine.specs.open_places.OpenMap.{first_behind, line_in}
 use Rattle.rv_machine.proofs.OfOpenPlaces.Fronts.{found_behind, none_behind}
 use Rattle.rv_machine.proofs.open_places.table.OpenTable.behind.Goals as goal

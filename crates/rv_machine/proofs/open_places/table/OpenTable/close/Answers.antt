@@ -1,7 +1,7 @@
 -- Who waited at the place left its line, and its limit went.
 use Rattle.std.proofs.Common.{◌∙◌, ap, subst, sym, refl, arith, List, Option, IsSome}
 use Rattle.rv_session.specs.OwedDuty.{OwedDuty}
-use Rattle.rv_state.specs.State.{OpenPlace}
+use Rattle.rv_account.specs.state.State.{OpenPlace}
 use Rattle.rv_machine.specs.open_places.OpenMap.{found_at, all_but}
 use Rattle.rv_machine.specs.open_places.Indexed.{WaitsIn}
 use Rattle.rv_machine.proofs.OfOpenPlaces.Indexing.{closed_waiting, fits_found, one_waits, waits_there}

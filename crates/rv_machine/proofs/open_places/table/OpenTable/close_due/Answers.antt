@@ -3,7 +3,7 @@ use Rattle.std.proofs.Common.{◌∙◌, ap, subst, sym, refl, arith, List, Opti
 use Rattle.rv_session.specs.OwedDuty.{OwedDuty}
 use Rattle.rv_due.specs.Deadlines.{Deadline}
 use Rattle.rv_due.proofs.Kept.{if_none}
-use Rattle.rv_state.specs.State.{OpenPlace}
+use Rattle.rv_account.specs.state.State.{OpenPlace}
 use Rattle.rv_machine.specs.open_places.OpenMap.{due_in}
 use Rattle.rv_machine.specs.open_places.Indexed.{ClosesDue}
 use Rattle.rv_machine.proofs.OfOpenPlaces.Fronts.{closes_due, due_out, due_there, nothing_due, without_its}

@@ -2,7 +2,7 @@
 use Rattle.std.proofs.Common.{◌∙◌, ap, sym, List}
 use Rattle.std.specs.Prelude.{slice_get}
 use Rattle.rv_text.specs.declared.call.Side.TheVariants.{Gives}
-use Rattle.rv_state.specs.State.{OpenPlace}
+use Rattle.rv_account.specs.state.State.{OpenPlace}
 use Rattle.rv_machine.specs.open_places.OpenMap.{line_in}
 use Rattle.rv_machine.proofs.OfOpenPlaces.Fronts.{first_found}
 use Rattle.rv_machine.proofs.open_places.table.OpenTable.front.Goals as goal

@@ -3,8 +3,8 @@ use Rattle.std.proofs.Common.{◌≡◌, ◌<◌, ◌∷◌, ◌∙◌, ap, subs
 use Rattle.std.proofs.Common.{IsSome, ℕ}
 use Rattle.rv_text.specs.Calls.{side_of, wait_of}
 use Rattle.rv_text.specs.declared.call.Side.{Side}
-use Rattle.rv_state.specs.State.{OpenPlace}
-use Rattle.rv_state.proofs.Words.{same_Some}
+use Rattle.rv_account.specs.state.State.{OpenPlace}
+use Rattle.rv_account.proofs.OfState.Words.{same_Some}
 use Rattle.rv_machine.specs.open_places.OpenMap.{StandBelow, found_at, line_in, opposed_in, all_but}
 use Rattle.rv_machine.specs.open_places.OpenMap.{without_limit}
 use Rattle.rv_machine.specs.open_places.Indexed.{ClosesFirst}

@@ -1,7 +1,7 @@
 -- The least deadline is of the first that is due.
 use Rattle.std.proofs.Common.{List, subst}
 use Rattle.rv_due.proofs.Kept.{if_none}
-use Rattle.rv_state.specs.State.{OpenPlace}
+use Rattle.rv_account.specs.state.State.{OpenPlace}
 use Rattle.rv_machine.specs.open_places.OpenMap.{IsFirstDue, NeverDue}
 use Rattle.rv_machine.proofs.OfOpenPlaces.Fronts.{first_due_at, never_due}
 use Rattle.rv_machine.proofs.open_places.table.OpenTable.next_limit.Goals as goal

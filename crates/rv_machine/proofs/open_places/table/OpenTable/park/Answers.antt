@@ -3,7 +3,7 @@ use Rattle.std.proofs.Common.{◌∙◌, ◌+◌, ◌++◌, ◌-◌, ◌∷◌, 
 use Rattle.rv_text.specs.declared.call.Call.{Call}
 use Rattle.rv_text.specs.Calls.{side_of, wait_of}
 use Rattle.rv_session.specs.OwedDuty.{OwedDuty}
-use Rattle.rv_state.specs.State.{OpenPlace}
+use Rattle.rv_account.specs.state.State.{OpenPlace}
 use Rattle.rv_model_queues.specs.Meeting.{ArrivedOn}
 use Rattle.rv_machine.specs.open_places.OpenMap.{StandBelow}
 use Rattle.rv_machine.specs.open_places.Indexed.{AreIndexed, MayPark, own_duty}

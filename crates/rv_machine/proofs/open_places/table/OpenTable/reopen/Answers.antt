@@ -1,6 +1,6 @@
 -- One that was open before is open again.
 use Rattle.std.proofs.Common.{◌+◌, arith, subst, sym, List}
-use Rattle.rv_state.specs.State.{OpenPlace}
+use Rattle.rv_account.specs.state.State.{OpenPlace}
 use Rattle.rv_machine.specs.open_places.Indexed.{AreIndexed}
 use Rattle.rv_machine.specs.open_places.Reopening.{MayReopen}
 use Rattle.rv_machine.proofs.OfOpenPlaces.Laying.{all_below}

@@ -3,7 +3,7 @@ use Rattle.std.proofs.Common.{◌≡◌, [], ◌∙◌, ◌++◌, ◌∷◌, ℕ
 use Rattle.std.proofs.lemmas.List.{append_assoc}
 use Rattle.std.specs.Vec.Iter.{into_iter_items}
 use Rattle.rv_session.specs.Clients.{ClientStates}
-use Rattle.rv_state.specs.State.{OpenPlace}
+use Rattle.rv_account.specs.state.State.{OpenPlace}
 use Rattle.rv_machine.specs.open_places.Reopening.{MayResume}
 use Rattle.rv_machine.specs.open_places.OpenMap.{StandBelow}
 use Rattle.rv_session.specs.ClientOrder.{is_above}

@@ -2,8 +2,8 @@
 use Rattle.std.proofs.Common.{◌≡◌, ◌∷◌, ◌∙◌, ap, subst, sym, refl, arith, List, Option, Some, IsSome}
 use Rattle.rv_text.specs.declared.call.Side.TheVariants.{Gives}
 use Rattle.rv_due.proofs.Kept.{if_none}
-use Rattle.rv_state.specs.State.{OpenPlace}
-use Rattle.rv_state.proofs.Words.{same_Some}
+use Rattle.rv_account.specs.state.State.{OpenPlace}
+use Rattle.rv_account.proofs.OfState.Words.{same_Some}
 use Rattle.rv_machine.specs.open_places.OpenMap.{line_in, owed_among, all_but}
 use Rattle.rv_machine.specs.open_places.Indexed.{ClosesFirst}
 use Rattle.rv_machine.proofs.OfOpenPlaces.Firsts.{closed_first, closes_first, count_first, first_left}

@@ -1,0 +1,6 @@
+-- The law, which WaitingLaws proves.
+use Rattle.rv_account.proofs.OfState.OfWaiting.WaitingLaws.{moves_answer}
+use Rattle.rv_account.proofs.state.waiting.laws.moves_answer.Goals as goal
+
+pub returns : goal.returns
+returns c = moves_answer

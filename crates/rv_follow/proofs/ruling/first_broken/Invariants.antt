@@ -1,6 +1,0 @@
-use Rattle.rv_machine.specs.Machines.{state_in}
-use Rattle.rv_follow.specs.state_rules.Ruling.{KeepsUpTo}
-use Rattle.rv_follow.proofs.ruling.first_broken.Given as goal
-
-abbrev pub invariant-loop-rule : goal.invariant-loop-rule
-invariant-loop-rule l = KeepsUpTo l.rule-index (state_in l.machine) l.entry

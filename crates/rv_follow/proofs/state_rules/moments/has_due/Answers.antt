@@ -1,8 +1,0 @@
-use Rattle.std.proofs.Common.{refl}
-use Rattle.rv_machine.specs.Machines.{state_in}
-use Rattle.rv_follow.proofs.OfAsked.DueNow.{due_told}
-use Rattle.rv_follow.proofs.state_rules.moments.has_due.Goals as goal
-
-pub returns-in-Some : goal.returns-in-Some
-returns-in-Some c =
-    due_told (state_in c.args.machine.now) c.in-Some.limit c.args.moment _ refl c.in-Some.ensures.some

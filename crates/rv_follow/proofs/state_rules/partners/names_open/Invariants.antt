@@ -1,9 +1,0 @@
-use Rattle.rv_account.specs.Account.{Among}
-use Rattle.rv_machine.specs.Machines.{state_in}
-use Rattle.rv_state.specs.State.{place_list}
-use Rattle.rv_follow.specs.state_rules.Walking.{HoldsBefore}
-use Rattle.rv_follow.proofs.state_rules.partners.names_open.Given as goal
-
-abbrev pub invariant-loop-place : goal.invariant-loop-place
-invariant-loop-place l =
-    HoldsBefore (Among (place_list (state_in l.machine).open_places)) l.partners l.place-index

@@ -1,6 +1,0 @@
-use Rattle.std.proofs.Common.{◌<◌}
-use Rattle.rv_follow.specs.state_rules.Walking.{HoldsBefore}
-use Rattle.rv_follow.proofs.state_rules.partners.stand_below.Given as goal
-
-abbrev pub invariant-loop-place : goal.invariant-loop-place
-invariant-loop-place l = HoldsBefore (λ p. p < l.length) l.places l.place-index

@@ -1,2 +1,0 @@
-//! Laws of entries that follow a state.
-pub use crate::state_rules::laws::{closed_breaks, follows_legally, rules_break};

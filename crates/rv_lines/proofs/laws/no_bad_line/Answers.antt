@@ -1,7 +1,0 @@
--- First lines of an account are read as an account.
-use Rattle.rv_lines.specs.Reading.{account_limits}
-use Rattle.rv_lines.proofs.OneReading.{read_has_no_bad}
-use Rattle.rv_lines.proofs.laws.no_bad_line.Goals as goal
-
-pub returns : goal.returns
-returns c = read_has_no_bad account_limits

@@ -1,1 +1,0 @@
--- No lemma is needed yet.

@@ -1,6 +1,0 @@
--- The law, by a connection's past.
-use Rattle.rv_server_crashes.proofs.Leaving.{sent_may_leave}
-use Rattle.rv_server_crashes.proofs.laws.sent_may_leave.Goals as goal
-
-pub returns : goal.returns
-returns c = sent_may_leave

@@ -1,6 +1,0 @@
--- The law, which StateLaws proves.
-use Rattle.rv_state.proofs.StateLaws.{moves_exist}
-use Rattle.rv_state.proofs.laws.moves_exist.Goals as goal
-
-pub returns : goal.returns
-returns c = moves_exist

@@ -1,6 +1,0 @@
--- The law, which CanEnter proves.
-use Rattle.rv_state.proofs.CanEnter.{requests_can_enter_under}
-use Rattle.rv_state.proofs.laws.requests_can_enter_under.Goals as goal
-
-pub returns : goal.returns
-returns c = requests_can_enter_under

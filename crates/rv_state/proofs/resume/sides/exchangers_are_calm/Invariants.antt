@@ -1,7 +1,0 @@
--- Those before are calm.
-use Rattle.std.proofs.Common.{ℕ, ◌<◌}
-use Rattle.rv_state.specs.resume.Checking.{IsCalmExchanger}
-use Rattle.rv_state.proofs.resume.sides.exchangers_are_calm.Given as goal
-
-abbrev pub invariant-loop-exchanger : goal.invariant-loop-exchanger
-invariant-loop-exchanger l = (exchanger : ℕ) → exchanger < l.exchanger → IsCalmExchanger l.opens exchanger

@@ -1,6 +1,0 @@
--- The law, which WaitingLaws proves.
-use Rattle.rv_state.proofs.OfWaiting.WaitingLaws.{moves_last}
-use Rattle.rv_state.proofs.waiting.laws.moves_last.Goals as goal
-
-pub returns : goal.returns
-returns c = moves_last

@@ -1,6 +1,0 @@
--- The law, which WaitingLaws proves.
-use Rattle.rv_state.proofs.OfWaiting.WaitingLaws.{ticks_last}
-use Rattle.rv_state.proofs.waiting.laws.ticks_last.Goals as goal
-
-pub returns : goal.returns
-returns c = ticks_last
