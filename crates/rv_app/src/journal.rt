@@ -2,8 +2,9 @@
 ghost use Rattle.std.specs.Prelude.{◌≤◌, length, None};
 
 use crate::again::{Again, size_of};
-use rv_book::lines::{cut_at, read_identifier};
+use rv_book::lines::cut_at;
 use rv_store::{FORMAT, VERSION};
+use rv_text::read_identifier;
 use std::fs::File;
 use std::io;
 use std::io::Read;

@@ -1,5 +1,4 @@
 -- The lemmas that the proofs of this crate share.
-pub mod Numbers
 pub mod Cutting
 pub mod Behind
 pub mod Plain

@@ -1,7 +1,6 @@
 -- What a reader must agree with: all that the public contracts and the laws cite.
 pub mod Laws
 pub mod Lines
-pub mod Number
 pub mod Reading
 pub mod Written
 -- What only private clauses and proofs cite.

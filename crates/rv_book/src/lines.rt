@@ -1,4 +1,4 @@
-//! Reads and writes the lines of text that say an account, and the numbers in such lines.
+//! Reads and writes the lines of text that say an account.
 //!
 //! ```
 //! let account: Account = read_account(alloc, input)?;
@@ -13,12 +13,10 @@ mod entry;
 mod fault;
 pub mod laws;
 mod line;
-mod number;
 mod written;
 
 pub use account::{read_account, read_head};
 pub use entry::read_entry;
 pub use fault::{AccountFault, LineFault};
 pub use line::{cut_at, first_line};
-pub use number::{read_between, read_identifier, read_number};
 pub use written::{entry_line, head_line};

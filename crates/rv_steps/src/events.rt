@@ -5,9 +5,9 @@
 //! ends the run.
 use crate::hexes::read_hex;
 use crate::words::read_size;
-use rv_book::lines::{cut_at, read_number};
+use rv_book::lines::cut_at;
 use rv_hub::HubEvent;
-use rv_text::NoMemory;
+use rv_text::{NoMemory, read_number};
 use std::alloc::Global;
 
 /// The words of a line, empty where it has no more: the moment, what came, and what else is said of that.

@@ -7,10 +7,11 @@ ghost use Rattle.rv_machine.specs.Machines.{state_in};
 use crate::answers::answer_of;
 use rv_account::Entry;
 use rv_account::rules::Limits;
-use rv_book::lines::{LineFault, cut_at, read_number};
+use rv_book::lines::{LineFault, cut_at};
 use rv_machine::Machine;
 use rv_text::{
     Answer, BAD_TEXT_BODY, Key, Message, NO_MEMORY_BODY, NoMemory, decode_message, encode_answer,
+    read_number,
 };
 use std::alloc::Global;
 

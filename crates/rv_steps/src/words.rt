@@ -3,7 +3,7 @@ ghost use Rattle.std.specs.Prelude.{IfSome};
 ghost use Rattle.rv_account.specs.rules.StepLimits.{AreStepLimits};
 
 use rv_account::rules::Limits;
-use rv_book::lines::{read_identifier, read_number};
+use rv_text::{read_identifier, read_number};
 
 /// What is done under limits.
 #[derive(Drop)]

@@ -6,7 +6,7 @@ use Rattle.std.proofs.lemmas.Bool.{false≢true}
 use Rattle.std.proofs.lemmas.Slice.Eq.{slice_eq-Decides}
 use Rattle.std.specs.Cmp.{unsigned_Decides}
 use Rattle.std.specs.Cmp.Lexicographic.{pointwise}
-use Rattle.rv_book.specs.lines.Number.{WritesIdentifier}
+use Rattle.rv_text.specs.Number.{WritesIdentifier}
 use Rattle.rv_book.proofs.OfLines.Cutting.{Lacks, cut_once, not_lacking}
 use Rattle.rv_book.proofs.OfLines.OneLine.{greater_lack}
 use Rattle.rv_store.specs.Format.{CutsFormat, HasNoFormat, IsJournalOf}

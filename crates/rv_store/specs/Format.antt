@@ -1,7 +1,7 @@
 -- The format that the first line of a journal names.
 use Rattle.std.specs.Prelude.{◌≡◌, ◌≢◌, ◌++◌, ◌∷◌, [], ℕ, List, codes}
 use Rattle.std.specs.List.{All}
-use Rattle.rv_book.specs.lines.Number.{WritesIdentifier}
+use Rattle.rv_text.specs.Number.{WritesIdentifier}
 use Rattle.rv_book.specs.lines.Written.{head_text}
 use Rattle.rv_store.specs.declared.reader.RecoveryFault.{RecoveryFault}
 use Rattle.rv_store.specs.declared.reader.RecoveryFault.TheVariants as fault

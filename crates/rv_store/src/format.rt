@@ -3,8 +3,8 @@ ghost use Rattle.std.specs.Prelude.{◌≡◌, ◌++◌, ℕ, List, None, false,
 ghost use Rattle.rv_store.specs.Format.{CutsFormat, IsFormatFault, first_text, format};
 
 use crate::reader::RecoveryFault;
-use rv_book::lines::{cut_at, head_line, read_identifier};
-use rv_text::NoMemory;
+use rv_book::lines::{cut_at, head_line};
+use rv_text::{NoMemory, read_identifier};
 use std::alloc::Global;
 
 /// What a journal begins with.

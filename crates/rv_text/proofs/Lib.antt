@@ -11,4 +11,5 @@ pub mod AnswerReaders
 pub mod Decoding
 pub mod Fitting
 pub mod Written
+pub mod Numbers
 mod ByWord

@@ -4,6 +4,7 @@ pub mod Versions
 pub mod Members
 pub mod Rows
 pub mod Limits
+pub mod Number
 pub mod Bodies
 pub mod Laws
 -- For private clauses, what the decoder finds among the members of an object, and what the encoder writes:

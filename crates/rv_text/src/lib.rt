@@ -18,6 +18,7 @@ mod encode;
 pub mod laws;
 mod members;
 mod message;
+mod number;
 mod version;
 
 pub use answer::{Answer, MAX_COUNTED, Refusal, Reply};
@@ -28,5 +29,6 @@ pub use encode::{
     encode_reply_in, encode_request, no_memory_body,
 };
 pub use message::{Key, MAX_IDENTIFIER, Message, fits_identifier};
+pub use number::{read_between, read_identifier, read_number, read_plain};
 pub use rv_json::{Item, Items, MAX_BODY_BYTES, MAX_DRAIN, NoMemory, TextFault};
 pub use version::Version;

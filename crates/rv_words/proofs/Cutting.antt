@@ -9,7 +9,7 @@ use Rattle.std.proofs.lemmas.Bool.Decides.{nat_tests}
 use Rattle.std.proofs.lemmas.List.{drop_at, take_at}
 use Rattle.std.proofs.lemmas.List.Elements.{All-head, All-tail}
 use Rattle.std.proofs.lemmas.Option.{same_Some}
-use Rattle.rv_book.specs.lines.Number.{value_of_digits}
+use Rattle.rv_text.specs.Number.{value_of_digits}
 use Rattle.rv_words.specs.Durations.{WritesDuration, is_no_digit, unit_millis, unit_word}
 use Rattle.rv_words.specs.declared.duration.TimeUnit.{TimeUnit}
 use Rattle.rv_words.specs.declared.duration.TimeUnit.TheVariants.{Hour, Millisecond, Minute, Second}

@@ -1,7 +1,7 @@
 -- Spans of time, as words write them.
 use Rattle.std.specs.Prelude.{Bool, codes, List, not, ℕ, ◌*◌, ◌++◌, ◌≡◌, ◌≤◌}
 use Rattle.std.specs.Char.{is_ascii_digit}
-use Rattle.rv_book.specs.lines.Number.{WritesNumber}
+use Rattle.rv_text.specs.Number.{WritesNumber}
 use Rattle.rv_words.specs.declared.duration.TimeUnit.{TimeUnit}
 use Rattle.rv_words.specs.declared.duration.TimeUnit.TheVariants.{Hour, Millisecond, Minute, Second}
 

@@ -15,8 +15,7 @@ pub use crate::fault::CommandFault;
 use crate::program::matches_of;
 use crate::reading::text_of;
 use clap::ArgMatches;
-use rv_book::lines::{read_between, read_identifier};
-use rv_text::Version;
+use rv_text::{Version, read_between, read_identifier};
 use std::alloc::Global;
 
 // The most workers of a server. That rv_server takes so many is proved where a server is started.

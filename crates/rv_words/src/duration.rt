@@ -2,7 +2,7 @@
 ghost use Rattle.std.specs.Prelude.{◌≡◌, ◌<◌, ℕ, IfSome, None, length, position};
 ghost use Rattle.rv_words.specs.Durations.{WritesDuration, is_no_digit, unit_millis, unit_word};
 
-use rv_book::lines::read_number;
+use rv_text::read_number;
 
 // The longest span: a day, in milliseconds.
 const MAX_MILLIS: u64 = 86_400_000;

@@ -2,7 +2,7 @@
 use Rattle.std.proofs.Common.{◌≡◌, ◌≢◌, ℕ, List, [], ◌∷◌, ◌++◌, refl, sym, ap, subst, ◌∙◌, append_assoc}
 use Rattle.std.proofs.Common.{arith}
 use Rattle.std.proofs.lemmas.List.Elements.{All-cons, All-nil}
-use Rattle.rv_book.specs.lines.Number.{WritesPlainly, WritesUpTo}
+use Rattle.rv_text.specs.Number.{WritesPlainly, WritesUpTo}
 use Rattle.rv_book.specs.lines.Reading.{SaysPartnersUpTo, SaysPlacesUpTo, SaysSomePlacesUpTo}
 use Rattle.rv_book.proofs.OfLines.Cutting.{Lacks, cut_once, not_lacking}
 use Rattle.rv_book.proofs.OfLines.Plain.{minus_is_no_number, plain_lacks, plainly_one}

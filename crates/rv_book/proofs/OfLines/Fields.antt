@@ -1,7 +1,7 @@
 -- The fields of an entry's line: they are cut in one way.
 use Rattle.std.proofs.Common.{◌≡◌, ℕ, List, ◌∷◌, ◌++◌, sym, ap, subst, ◌∙◌, append_assoc, arith}
 use Rattle.rv_book.specs.Steps.{max_moment}
-use Rattle.rv_book.specs.lines.Number.{WritesUpTo}
+use Rattle.rv_text.specs.Number.{WritesUpTo}
 use Rattle.rv_book.specs.lines.Reading.{CutsFields, HasFieldsUpTo, SaysPartnersUpTo}
 use Rattle.rv_book.proofs.OfLines.Commas.{partners_one}
 use Rattle.rv_book.proofs.OfLines.Cutting.{Lacks, cut_once, not_lacking}

@@ -2,7 +2,7 @@
 use Rattle.std.proofs.Common.{◌≡◌, ℕ, List, ◌∷◌, ◌++◌, drop, refl, sym, ap, subst, ◌∙◌, append_assoc, codes}
 use Rattle.std.proofs.Common.{arith}
 use Rattle.rv_book.specs.Steps.{max_moment}
-use Rattle.rv_book.specs.lines.Number.{WritesPlainly, WritesUpTo}
+use Rattle.rv_text.specs.Number.{WritesPlainly, WritesUpTo}
 use Rattle.rv_book.specs.lines.Reading.{ReadsHead}
 use Rattle.rv_book.proofs.OfLines.Cutting.{Lacks, cut_once, not_lacking}
 use Rattle.rv_book.proofs.OfLines.Plain.{plain_lacks, plainly_one}

@@ -32,7 +32,7 @@ use Rattle.rv_book.specs.lines.EntryText.{FitPlacesUpTo}
 use Rattle.rv_book.specs.lines.Written.{entry_text, head_text, message_in, partners_text}
 use Rattle.rv_book.specs.lines.Written.{places_text, said_text}
 use Rattle.rv_book.proofs.OfLines.Cutting.{Lacks}
-use Rattle.rv_book.proofs.OfLines.Numbers.{all_in_range}
+use Rattle.rv_text.proofs.Numbers.{all_in_range}
 
 -- a list of one more byte, and two lists
 pub line_cons : (x : ℕ) (xs : List ℕ) → x ≢ 10 → Lacks 10 xs → Lacks 10 (x ∷ xs)

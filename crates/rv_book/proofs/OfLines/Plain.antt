@@ -4,9 +4,9 @@ use Rattle.std.proofs.Common.{arith}
 use Rattle.std.specs.Fmt.{decimal}
 use Rattle.std.proofs.lemmas.Fmt.{decimal_digit, decimal_is_IsNumeral, first_decimal, length-decimal-le}
 use Rattle.std.proofs.lemmas.Bool.{cases_lt}
-use Rattle.rv_book.specs.lines.Number.{WritesPlainly}
+use Rattle.rv_text.specs.Number.{WritesPlainly}
 use Rattle.rv_book.proofs.OfLines.Cutting.{Lacks}
-use Rattle.rv_book.proofs.OfLines.Numbers.{all_in_range}
+use Rattle.rv_text.proofs.Numbers.{all_in_range}
 
 -- a text writes one number
 pub plainly_one : (text : List ℕ) (m n : ℕ) → WritesPlainly text m → WritesPlainly text n → m ≡ n

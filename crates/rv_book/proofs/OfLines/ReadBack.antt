@@ -16,7 +16,7 @@ use Rattle.rv_book.specs.Steps.{max_moment}
 use Rattle.rv_book.proofs.OfLines.Texts.{AllUpTo, message_fits, up_to_behind}
 use Rattle.rv_book.specs.lines.Laws.{WrittenLines}
 use Rattle.rv_book.specs.lines.Lines.{lines, printed_lines}
-use Rattle.rv_book.specs.lines.Number.{WritesUpTo}
+use Rattle.rv_text.specs.Number.{WritesUpTo}
 use Rattle.rv_book.specs.lines.EntryText.{FitPlacesUpTo}
 use Rattle.rv_book.specs.lines.Reading.{LineLimits, ReadsEntryUpTo, SaysMessage, SaysPartnersUpTo}
 use Rattle.rv_book.specs.lines.Reading.{SaysPlacesUpTo}

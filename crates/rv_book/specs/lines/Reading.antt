@@ -9,7 +9,7 @@ use Rattle.rv_account.specs.declared.entry.Act.{Act}
 use Rattle.rv_account.specs.declared.entry.Entry.{Entry}
 use Rattle.rv_account.specs.Account.{Account}
 use Rattle.rv_book.specs.Steps.{max_entries, max_moment}
-use Rattle.rv_book.specs.lines.Number.{WritesPlainly, WritesUpTo}
+use Rattle.rv_text.specs.Number.{WritesPlainly, WritesUpTo}
 use Rattle.rv_book.specs.lines.EntryText.{max_partner, message_in}
 
 -- ---- one line

@@ -1,7 +1,7 @@
 //! Reads the lines of an account.
 ghost use Rattle.std.specs.Prelude.{◌≡◌, ◌≤◌, ◌+◌, ◌++◌, ◌∷◌, [], ℕ, List, None, Err, IfOk, IfSome, OnOk};
 ghost use Rattle.rv_book.specs.lines.Lines.{lines};
-ghost use Rattle.rv_book.specs.lines.Number.{WritesPlainly};
+ghost use Rattle.rv_text.specs.Number.{WritesPlainly};
 ghost use Rattle.rv_book.specs.lines.Reading.{FirstBadLine, ReadsAccount, ReadsEntries, ReadsEntry};
 ghost use Rattle.rv_book.specs.lines.Reading.{ReadsHead};
 ghost use Rattle.rv_book.specs.lines.Reading.{account_limits};
@@ -11,9 +11,8 @@ ghost use Rattle.rv_text.specs.Limits.{FitsIdentifier};
 use crate::lines::entry::read_entry;
 use crate::lines::fault::{AccountFault, LineFault};
 use crate::lines::line::{cut_at, first_line};
-use crate::lines::number::read_plain;
 use crate::{Account, Entry, MAX_ENTRIES, MAX_MOMENT};
-use rv_text::{MAX_IDENTIFIER, NoMemory};
+use rv_text::{MAX_IDENTIFIER, NoMemory, read_plain};
 use std::alloc::Global;
 
 // The greatest place of a partner.

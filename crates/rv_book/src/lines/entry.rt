@@ -3,16 +3,15 @@ ghost use Rattle.std.specs.Prelude.{◌≡◌, ◌↔◌, ◌++◌, ◌∷◌, [
 ghost use Rattle.std.specs.Prelude.{IfOk, IfSome, IsTrue, OnOk};
 ghost use Rattle.rv_account.specs.declared.entry.Act as account;
 ghost use Rattle.rv_account.specs.declared.entry.Entry as entries;
-ghost use Rattle.rv_book.specs.lines.Number.{WritesUpTo};
+ghost use Rattle.rv_text.specs.Number.{WritesUpTo};
 ghost use Rattle.rv_book.specs.lines.Reading.{CutsFields, ReadsEntryUpTo, SaysAct, SaysPartnersUpTo};
 ghost use Rattle.rv_book.specs.lines.Reading.{SaysSomePlacesUpTo};
 ghost use Rattle.rv_book.specs.lines.Written.{message_in};
 
 use crate::lines::fault::LineFault;
 use crate::lines::line::cut_at;
-use crate::lines::number::read_plain;
 use crate::{Act, Entry, MAX_MOMENT, Partners, Place};
-use rv_text::{Message, NoMemory, decode_message};
+use rv_text::{Message, NoMemory, decode_message, read_plain};
 use std::alloc::Global;
 
 /// The entry that a line says by its three fields, separated by one space: the moment; the places of the

@@ -1,7 +1,6 @@
 //! The address of a server: alternatives that are tried in turn, and what it says of a session.
 use percent_encoding::percent_decode_str;
-use rv_book::lines::read_between;
-use rv_text::Version;
+use rv_text::{Version, read_between};
 use std::alloc::{AllocError, Global};
 use std::fmt;
 use std::time::Duration;

@@ -1,6 +1,6 @@
 //! A client number that no other program of this user has on this host, while its socket is bound.
 use crate::lease::{lease_address, lease_at};
-use rv_book::lines::read_identifier;
+use rv_text::read_identifier;
 use std::io::ErrorKind;
 use std::net::{Ipv4Addr, SocketAddrV4, UdpSocket};
 

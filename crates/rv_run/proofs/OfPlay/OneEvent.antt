@@ -6,7 +6,7 @@ use Rattle.rv_text.specs.declared.version.Version.{Version}
 use Rattle.rv_text.specs.declared.version.Version.TheVariants.{One, Two}
 use Rattle.rv_text.specs.Bodies.{IsCallBody}
 use Rattle.rv_text.specs.Laws.{OneCall}
-use Rattle.rv_book.specs.lines.Number.{WritesNumber, value_of_digits}
+use Rattle.rv_text.specs.Number.{WritesNumber, value_of_digits}
 use Rattle.rv_world.specs.declared.parts.event.Event.{Event}
 use Rattle.rv_world.specs.declared.parts.event.Event.TheVariants as event
 use Rattle.rv_book.proofs.OfLines.Cutting.{Lacks, cut_once}

@@ -12,7 +12,7 @@ use Rattle.rv_text.specs.Bodies.{Decodes, IsCallBody}
 use Rattle.rv_text.specs.Limits.{FitsIdentifier}
 use Rattle.rv_book.specs.lines.Faults.{line_fault}
 use Rattle.rv_book.specs.declared.lines.fault.LineFault.TheVariants as line
-use Rattle.rv_book.specs.lines.Number.{WritesIdentifier, WritesNumber}
+use Rattle.rv_text.specs.Number.{WritesIdentifier, WritesNumber}
 use Rattle.rv_world.specs.declared.parts.event.Event.{Event}
 use Rattle.rv_world.specs.declared.parts.event.Event.TheVariants as event
 use Rattle.rv_world.specs.parts.Limits.{FitsEvent}

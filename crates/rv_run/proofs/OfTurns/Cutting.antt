@@ -4,7 +4,7 @@ use Rattle.rv_text.specs.declared.message.Message.{Message}
 use Rattle.rv_text.specs.Bodies.{IsMessageBody}
 use Rattle.rv_book.proofs.OfLines.Cutting.{cut_once, digits_lack_space}
 use Rattle.rv_run.specs.turns.Lines.{IsBadLine}
-use Rattle.rv_book.specs.lines.Number.{WritesNumber}
+use Rattle.rv_text.specs.Number.{WritesNumber}
 
 -- a line has one moment's digits and one body
 pub one_cut : (digits body digits' body' : List ℕ) (moment moment' : ℕ) → WritesNumber digits moment

@@ -8,7 +8,7 @@ use Rattle.std.proofs.lemmas.Bool.{cases_lt}
 use Rattle.std.proofs.lemmas.Bool.Decides.{eqb_tells}
 use Rattle.rv_text.specs.Bodies.{HasBodyLength}
 use Rattle.rv_run.specs.turns.Lines.{HasForm, IsBadLine}
-use Rattle.rv_book.specs.lines.Number.{IsDigits}
+use Rattle.rv_text.specs.Number.{IsDigits}
 use Rattle.rv_book.proofs.OfLines.Cutting.{Lacks, cut_once, digits_lack_space, not_lacking}
 
 -- the fact holds, or it does not

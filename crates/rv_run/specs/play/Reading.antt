@@ -3,7 +3,7 @@ use Rattle.std.specs.Prelude.{ℕ, List, codes, ◌∷◌, ◌++◌, ◌≡◌}
 use Rattle.rv_text.specs.declared.version.Version.{Version}
 use Rattle.rv_text.specs.declared.version.Version.TheVariants.{One, Two}
 use Rattle.rv_text.specs.Bodies.{IsCallBody}
-use Rattle.rv_book.specs.lines.Number.{WritesIdentifier, WritesNumber}
+use Rattle.rv_text.specs.Number.{WritesIdentifier, WritesNumber}
 use Rattle.rv_world.specs.declared.parts.event.Event.{Event}
 use Rattle.rv_world.specs.declared.parts.event.Event.TheVariants as event
 

@@ -3,7 +3,7 @@ use Rattle.std.specs.Prelude.{ℕ, List, ◌∷◌, ◌++◌, ◌≡◌}
 use Rattle.rv_text.specs.declared.message.Message.{Message}
 use Rattle.rv_text.specs.Bodies.{HasBodyLength, IsMessageBody}
 pub use Rattle.rv_book.specs.lines.Lines.{lines}
-use Rattle.rv_book.specs.lines.Number.{IsDigits, WritesNumber}
+use Rattle.rv_text.specs.Number.{IsDigits, WritesNumber}
 
 -- the line is the digits of a moment, one space (32) and a body of the message
 pub record ReadsLine (line : List ℕ) (moment : ℕ) (message : Message) : Type 0 where

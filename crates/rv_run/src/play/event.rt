@@ -1,14 +1,14 @@
 //! Reads the event that a line of a play says.
 ghost use Rattle.std.specs.Prelude.{◌≡◌, ◌↔◌, ℕ, Err, None, IfOk, IfSome, IsTrue, codes};
-ghost use Rattle.rv_book.specs.lines.Number.{WritesNumber};
+ghost use Rattle.rv_text.specs.Number.{WritesNumber};
 ghost use Rattle.rv_text.specs.declared.call.Call as calls;
 ghost use Rattle.rv_world.specs.declared.parts.event.Event.TheVariants as event;
 ghost use Rattle.rv_run.specs.play.Parts.{SaysAtMostBegin, SaysNoneOfOne, SaysParts};
 ghost use Rattle.rv_run.specs.play.Reading.{SayRest, SaysEvent, SaysNoEvent, SaysSession};
 ghost use Rattle.rv_text.specs.declared.version.Version.{Version};
 
-use rv_book::lines::{LineFault, cut_at, read_identifier, read_number};
-use rv_text::{Version, decode_call};
+use rv_book::lines::{LineFault, cut_at};
+use rv_text::{Version, decode_call, read_identifier, read_number};
 use rv_world::Event;
 use std::alloc::Global;
 

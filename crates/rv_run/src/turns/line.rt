@@ -1,10 +1,10 @@
 //! Reads the moment and the message that a line of the book's input says.
 ghost use Rattle.std.specs.Prelude.{◌≡◌, ◌∷◌, ◌++◌, ℕ, List, None, IfSome, IfOk, Err};
 ghost use Rattle.rv_run.specs.turns.Lines.{HasForm, IsBadLine, ReadsLine};
-ghost use Rattle.rv_book.specs.lines.Number.{WritesNumber};
+ghost use Rattle.rv_text.specs.Number.{WritesNumber};
 
-use rv_book::lines::{LineFault, cut_at, read_number};
-use rv_text::{Message, decode_message};
+use rv_book::lines::{LineFault, cut_at};
+use rv_text::{Message, decode_message, read_number};
 use std::alloc::Global;
 
 /// The moment and the message that a line says: 1 to 19 digits, one space and the message's body.

@@ -5,7 +5,7 @@ use Rattle.clap.specs.Words.{Row, Text, fault_of, first_of, subcommand_of}
 use Rattle.rv_text.specs.declared.version.Version.{Version}
 use Rattle.rv_text.specs.Versions.{number_of_version}
 use Rattle.rv_text.specs.Limits.{FitsIdentifier}
-use Rattle.rv_book.specs.lines.Number.{WritesBetween, WritesIdentifier}
+use Rattle.rv_text.specs.Number.{WritesBetween, WritesIdentifier}
 use Rattle.rv_words.specs.Durations.{WritesDuration}
 use Rattle.rv_words.specs.Program.{rv_app}
 use Rattle.rv_words.specs.declared.command.Command.{Command}

@@ -5,7 +5,7 @@ use Rattle.clap.specs.declared.error.Error.{Error}
 use Rattle.clap.specs.declared.error.kind.ErrorKind.{ErrorKind}
 use Rattle.clap.specs.declared.error.kind.ErrorKind.TheVariants.{OutOfMemory}
 use Rattle.rv_json.specs.Limits.{FitsItem}
-use Rattle.rv_book.specs.lines.Number.{WritesBetween}
+use Rattle.rv_text.specs.Number.{WritesBetween}
 use Rattle.rv_words.specs.Durations.{WritesDuration}
 use Rattle.rv_words.specs.options.Faults.{status_of_kind}
 use Rattle.rv_words.specs.shell.Calls.{value_row}

@@ -2,7 +2,7 @@
 use Rattle.std.proofs.Common.{◌≡◌, ◌∙◌, ◌*◌, ℕ, List, None, Some, ap, arith, refl, subst, sym}
 use Rattle.std.proofs.lemmas.Bool.{false≢true}
 use Rattle.std.proofs.lemmas.List.{take_rest}
-use Rattle.rv_book.specs.lines.Number.{IsDigits}
+use Rattle.rv_text.specs.Number.{IsDigits}
 use Rattle.rv_words.specs.Durations.{WritesDuration}
 use Rattle.rv_words.proofs.Cutting.{cut_digits, cut_word, first_letter_of, read_as}
 use Rattle.rv_words.proofs.duration.read_duration.Goals as goal

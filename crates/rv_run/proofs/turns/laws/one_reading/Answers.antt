@@ -1,7 +1,7 @@
 -- One moment's digits and one body, which is that of one message.
 use Rattle.std.proofs.Common.{List, ap, subst, sym, ◌∙◌, ℕ}
 use Rattle.rv_text.specs.Bodies.{IsMessageBody}
-use Rattle.rv_book.specs.lines.Number.{value_of_digits}
+use Rattle.rv_text.specs.Number.{value_of_digits}
 use Rattle.rv_run.proofs.OfTurns.Cutting.{one_cut}
 use Rattle.rv_run.proofs.turns.laws.one_reading.Goals as goal
 

@@ -1,7 +1,7 @@
 -- A moment and a body are found where the line has them.
 use Rattle.std.proofs.Common.{◌≡◌, ◌∷◌, ◌++◌, refl, subst, sym, ◌∙◌}
 use Rattle.std.proofs.lemmas.Bool.{false≢true}
-use Rattle.rv_book.specs.lines.Number.{IsDigits}
+use Rattle.rv_text.specs.Number.{IsDigits}
 use Rattle.rv_book.proofs.OfLines.Cutting.{Lacks, digits_lack_space, not_lacking, cut_once}
 use Rattle.rv_run.proofs.turns.line.moment_and_body.Goals as goal
 

@@ -2,7 +2,7 @@
 use Rattle.std.proofs.Common.{codes, refl, lit<, lit≤}
 use Rattle.clap.proofs.OnLiterals.{clap_on_literals}
 use Rattle.rv_words.specs.command.Laws.{BookOneIsNamed}
-use Rattle.rv_book.proofs.OfLines.Numbers.{all_in_range}
+use Rattle.rv_text.proofs.Numbers.{all_in_range}
 use Rattle.rv_words.proofs.command.laws.book_one_is_named.Goals as goal
 
 named : BookOneIsNamed

@@ -1,9 +1,9 @@
 //! Reads a number that is written in decimal digits.
 ghost use Rattle.std.specs.Prelude.{IfSome, IsSome, None, ℕ, ◌↔◌, ◌≡◌};
-ghost use Rattle.rv_book.specs.lines.Number.{IsDigits, WritesBetween, WritesIdentifier, WritesUpTo};
-ghost use Rattle.rv_book.specs.lines.Number.{value_of_digits};
+ghost use Rattle.rv_text.specs.Number.{IsDigits, WritesBetween, WritesIdentifier, WritesUpTo};
+ghost use Rattle.rv_text.specs.Number.{value_of_digits};
 
-use rv_text::MAX_IDENTIFIER;
+use crate::message::MAX_IDENTIFIER;
 
 // The most digits of a number. Every number of so many digits fits a `u64`.
 const MOST_DIGITS: usize = 19;
@@ -49,7 +49,7 @@ pub fn read_between(text: &[u8], least: u64, most: u64) -> Option<u64>
 }
 
 /// The number that `text` writes with no leading zero, if it is at most `most`. `0` alone is a number too.
-pub(crate) fn read_plain(text: &[u8], most: u64) -> Option<u64>
+pub fn read_plain(text: &[u8], most: u64) -> Option<u64>
     ensures some { IfSome result (WritesUpTo most text.now) }
     ensures none { result ≡ None → (n : ℕ) → ¬ WritesUpTo most text.now n }
 {

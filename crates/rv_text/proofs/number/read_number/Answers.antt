@@ -2,8 +2,8 @@
 use Rattle.std.proofs.Common.{arith, refl, rules, subst}
 use Rattle.std.proofs.lemmas.List.{take_all}
 use Rattle.std.specs.Str.Parse.{AllDigits}
-use Rattle.rv_book.proofs.OfLines.Numbers.{all_in_range, digits_with_next, value_before_last, value_with_next}
-use Rattle.rv_book.proofs.lines.number.read_number.Goals as goal
+use Rattle.rv_text.proofs.Numbers.{all_in_range, digits_with_next, value_before_last, value_with_next}
+use Rattle.rv_text.proofs.number.read_number.Goals as goal
 
 pub overflow_mul-value : goal.overflow_mul-value
 overflow_mul-value c = grind (arith, value_before_last)
