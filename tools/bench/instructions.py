@@ -30,7 +30,7 @@ SHORT, LONG = 2_000, 12_000
 # program's own loop, which finds lines and their moments, and the memory that it gives back.
 PARSE = "parse: text to message"
 PARTS = {
-    "read: input to lines": ("rv_run::input", "rv_lines", "rv_frame::source"),
+    "read: input to lines": ("rv_run::input", "rv_book::lines", "rv_frame::source"),
     PARSE: ("rv_text::decode", "rv_text::members", "rv_text::message", "rv_text::serde_json",
             "rv_json::value", "rv_json::members", "rv_json::body", "rv_json::flat", "rv_json::scan", "rv_json::serde_json",
         "serde_json", "json::index"),

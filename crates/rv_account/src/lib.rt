@@ -1,4 +1,5 @@
-//! Accounts: what came to a book, in order, and who met whom.
+//! Accounts: what came to a book, in order, and who met whom; their rules, and the states on which their
+//! futures depend.
 //!
 //! ```
 //! let mut account = Account::empty(alloc, epoch, opened);

@@ -1,4 +1,5 @@
-//! The book of one epoch: its sessions, all that waits in it, and the account of what happened to them.
+//! The book of one epoch: its sessions, all that waits in it, and the account of what happened to them, which
+//! lines of text can say.
 //!
 //! ```
 //! let mut book = Book::open(alloc, epoch, now)?;

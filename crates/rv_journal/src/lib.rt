@@ -1,4 +1,5 @@
-//! A journal: a file to which pieces of text are added, each of which is stored once it is said to be.
+//! Journals: files to which pieces of text are added, each stored once it is said to be, and the folder that
+//! has their names.
 //!
 //! ```
 //! let mut lines = Vec::new(alloc);

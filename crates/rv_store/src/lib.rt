@@ -1,4 +1,4 @@
-//! An account in a journal: what was written of it is found after a crash, and a machine goes on from there.
+//! An account in a journal: what was written of it is found after a crash, and a server goes on from there.
 //!
 //! ```
 //! let StoredAccount { journal, machine } = open_account(alloc, device)?;

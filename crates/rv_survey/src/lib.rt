@@ -1,4 +1,4 @@
-//! What a server's status shows of a hub: what waits in its queues, and its oldest requests.
+//! What a server shows of itself: the rows of its status that tell of a hub, and the lines of its log.
 //!
 //! ```
 //! let mut sights = Sights::new(alloc);

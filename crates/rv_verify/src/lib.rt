@@ -1,4 +1,5 @@
-//! Audits an account of any length as it is read, line by line, and checks a record of replies against it.
+//! Audits an account of any length as it is read, by a machine that follows its entries, and checks a record
+//! of replies against it.
 //!
 //! Memory holds what is open, the clients, the record, and one line at a time.
 //!
