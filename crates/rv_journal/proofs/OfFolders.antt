@@ -1,5 +1,5 @@
-mod Changes
-mod EpochBegins
-mod ListedEpochs
-mod MemoryNames
-mod SystemNames
+pub mod Changes
+pub mod EpochBegins
+pub mod ListedEpochs
+pub mod MemoryNames
+pub mod SystemNames

@@ -1,2 +1,2 @@
 -- The lemmas that the proofs of this crate share.
-mod Chosen
+pub mod Chosen

@@ -1,8 +1,8 @@
 pub mod Room
-mod Pairs
-mod Servers
-mod Serving
-mod Lacking
-mod Leaving
-mod Going
-mod OfCrashes
+pub mod Pairs
+pub mod Servers
+pub mod Serving
+pub mod Lacking
+pub mod Leaving
+pub mod Going
+pub mod OfCrashes
