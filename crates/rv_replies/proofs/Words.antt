@@ -3,9 +3,8 @@ pub use Rattle.rv_account.proofs.OfState.Words.{◌++◌, ◌<◌, ◌∙◌, �
 pub use Rattle.rv_account.proofs.OfState.Words.{ap, arith, inl, inr, length, map, option_and_then}
 pub use Rattle.rv_account.proofs.OfState.Words.{option_map, refl}
 pub use Rattle.rv_account.proofs.OfState.Words.{subst, sym, ℕ, none-some, same_Some, slice_get, slice_get-map}
-pub use Rattle.rv_account.proofs.OfState.Words.{Account, act_at, call_in, key_in, with_entry, Act, Arrive}
-pub use Rattle.rv_account.proofs.OfState.Words.{Cancel}
-pub use Rattle.rv_account.proofs.OfState.Words.{Hello, Tick, Entry, act_read, key_read, reads_back, reads_on}
+pub use Rattle.rv_account.proofs.OfState.Words.{Account, act_at, call_in, key_in, with_entry}
+pub use Rattle.rv_account.proofs.OfState.Words.{act_read, key_read, reads_back, reads_on}
 pub use Rattle.rv_account.proofs.OfState.Words.{arrives_once, get-append_end, HasWaiting, Legal}
 pub use Rattle.rv_account.proofs.OfState.Words.{CancelledFirst}
 pub use Rattle.rv_account.proofs.OfState.Words.{Waiting, Settled, acted, following, state_after, state_of}
@@ -14,6 +13,9 @@ pub use Rattle.rv_account.proofs.OfState.Words.{IsClient, IsStateOf, WaitsThere,
 pub use Rattle.rv_account.proofs.OfState.Words.{OpenPlace}
 pub use Rattle.rv_account.proofs.OfState.Words.{State, client_at, Reply, Call, Key, last_key_of, with_last}
 pub use Rattle.rv_account.proofs.OfState.Words.{met_by}
+pub use Rattle.rv_account.specs.declared.entry.Entry.{Entry}
+pub use Rattle.rv_account.specs.declared.entry.Act.{Act}
+pub use Rattle.rv_account.specs.declared.entry.Act.TheVariants.{Arrive, Cancel, Hello, Tick}
 pub use Rattle.rv_account.specs.state.Agreement.{HasReplied}
 pub use Rattle.rv_account.specs.state.Moves.{told_again}
 pub use Rattle.rv_account.proofs.OfState.Coming.{Comes, more}

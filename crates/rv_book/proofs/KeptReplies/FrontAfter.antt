@@ -2,10 +2,11 @@
 use Rattle.rv_account.proofs.OfState.Words.{◌++◌, ◌≡◌, ◌∙◌, ◌∷◌, ℕ, [], Option, Some, None, append-nil, ap}
 use Rattle.rv_account.proofs.OfState.Words.{cond}
 use Rattle.rv_account.proofs.OfState.Words.{refl, take, filter, slice_get, Key, Call, Gives, side_of}
-use Rattle.rv_account.proofs.OfState.Words.{wait_of, Arrive, may_name, opposite, ClientState, LastRequest}
+use Rattle.rv_account.proofs.OfState.Words.{wait_of, may_name, opposite, ClientState, LastRequest}
 use Rattle.rv_account.proofs.OfState.Words.{OpenPlace}
 use Rattle.rv_account.proofs.OfState.Words.{State, line, line_of, place_list, same_side, acted, but, met_by}
 use Rattle.rv_account.proofs.OfState.Words.{with_last}
+use Rattle.rv_account.specs.declared.entry.Act.TheVariants.{Arrive}
 use Rattle.std.proofs.Common.{◌&&◌, is_some, map}
 use Rattle.std.proofs.Math.Seq.{take-nil}
 use Rattle.rv_text.specs.declared.call.Side.TheVariants.{Looks}

@@ -1,7 +1,8 @@
 -- What is kept of a reply stays where more entries follow.
 use Rattle.rv_account.proofs.OfState.Words.{◌++◌, ◌∙◌, ◌≡◌, ℕ, List, Option, Some, None, ap, option_and_then}
 use Rattle.rv_account.proofs.OfState.Words.{option_map}
-use Rattle.rv_account.proofs.OfState.Words.{refl, Entry, Reply, item_of, call_read, reads_on}
+use Rattle.rv_account.proofs.OfState.Words.{refl, Reply, item_of, call_read, reads_on}
+use Rattle.rv_account.specs.declared.entry.Entry.{Entry}
 use Rattle.rv_account.proofs.OfRules.Keys.{key_read}
 use Rattle.rv_account.specs.Account.{item_at, key_at, partners_items}
 use Rattle.rv_session.specs.declared.kept.Kept.{Kept}

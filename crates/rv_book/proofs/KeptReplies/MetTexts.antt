@@ -2,7 +2,8 @@
 use Rattle.rv_account.proofs.OfState.Words.{◌≡◌, ℕ, zero, suc, List, Option, Some}
 use Rattle.rv_account.proofs.OfState.Words.{subst, none-some, same_Some, Version, Key, Call, Wait, Now}
 use Rattle.rv_account.proofs.OfState.Words.{Millis, Forever}
-use Rattle.rv_account.proofs.OfState.Words.{Reply, Entry, State, told_met, session_version}
+use Rattle.rv_account.proofs.OfState.Words.{Reply, State, told_met, session_version}
+use Rattle.rv_account.specs.declared.entry.Entry.{Entry}
 use Rattle.rv_text.specs.declared.version.Version.TheVariants.{One, Two}
 use Rattle.rv_text.specs.declared.call.Call.TheVariants as call
 use Rattle.rv_text.specs.declared.answer.Reply.TheVariants as reply

@@ -1,9 +1,9 @@
 -- What any other client's last request is told again stays with an entry.
 use Rattle.rv_account.proofs.OfState.Words.{◌≡◌, ◌∙◌, inl, inr, ℕ, List, Some, refl, sym, ap, slice_get}
-use Rattle.rv_account.proofs.OfState.Words.{Entry}
 use Rattle.rv_account.proofs.OfState.Words.{ClientState, LastRequest, State, Settled, client_at, Fresh, Waits}
 use Rattle.rv_account.proofs.OfState.Words.{RepliedTo}
 use Rattle.rv_account.proofs.OfState.Words.{CancelledUnseen, following}
+use Rattle.rv_account.specs.declared.entry.Entry.{Entry}
 use Rattle.rv_account.specs.state.Moves.{told_again}
 use Rattle.rv_account.proofs.OfState.Filtered.{mapped_there}
 use Rattle.rv_account.proofs.OfState.ToldClients.{told_client, told_or_waits, told_request, told_still}

@@ -3,14 +3,16 @@
 use Rattle.rv_account.proofs.OfState.Words.{◌≡◌, ◌++◌, ◌∷◌, ◌∙◌, [], ℕ, List, length, Option, Some, None}
 use Rattle.rv_account.proofs.OfState.Words.{option_and_then, refl, sym, ap, subst, slice_get, none-some}
 use Rattle.rv_account.proofs.OfState.Words.{same_Some}
-use Rattle.rv_account.proofs.OfState.Words.{Version, Key, Call, Reply, Gives, side_of, Entry, Act, Hello}
-use Rattle.rv_account.proofs.OfState.Words.{Arrive}
-use Rattle.rv_account.proofs.OfState.Words.{Cancel, Tick, Account, ClientState, LastRequest, OpenPlace}
+use Rattle.rv_account.proofs.OfState.Words.{Version, Key, Call, Reply, Gives, side_of}
+use Rattle.rv_account.proofs.OfState.Words.{Account, ClientState, LastRequest, OpenPlace}
 use Rattle.rv_account.proofs.OfState.Words.{State, Settled}
 use Rattle.rv_account.proofs.OfState.Words.{client_at, client_waits, line, open_at, place_list}
 use Rattle.rv_account.proofs.OfState.Words.{place_waiting, Fresh}
 use Rattle.rv_account.proofs.OfState.Words.{Waits, RepliedTo, CancelledUnseen, acted, cancelled, following}
 use Rattle.rv_account.proofs.OfState.Words.{met_by}
+use Rattle.rv_account.specs.declared.entry.Entry.{Entry}
+use Rattle.rv_account.specs.declared.entry.Act.{Act}
+use Rattle.rv_account.specs.declared.entry.Act.TheVariants.{Arrive, Cancel, Hello, Tick}
 use Rattle.rv_account.specs.state.After.{closed, parked, request_after, tell_all, with_open}
 use Rattle.rv_text.specs.declared.call.Side.TheVariants.{Looks}
 use Rattle.rv_account.specs.state.Moves.{told_again}

@@ -3,14 +3,17 @@ use Rattle.rv_account.proofs.OfState.Words.{◌≡◌, ◌∷◌, ◌∙◌, ℕ
 use Rattle.rv_account.proofs.OfState.Words.{option_map, refl, sym, ap, subst, slice_get, none-some}
 use Rattle.rv_account.proofs.OfState.Words.{same_Some, Key}
 use Rattle.rv_account.proofs.OfState.Words.{Call}
-use Rattle.rv_account.proofs.OfState.Words.{Gives, Takes, Reply, drains_of, item_of, side_of, Entry, Arrive}
+use Rattle.rv_account.proofs.OfState.Words.{Gives, Takes, Reply, drains_of, item_of, side_of}
 use Rattle.rv_account.proofs.OfState.Words.{Account}
-use Rattle.rv_account.proofs.OfState.Words.{Act, call_at, call_in, key_in, opposite, gives_item, call_read}
+use Rattle.rv_account.proofs.OfState.Words.{call_at, call_in, key_in, opposite, gives_item, call_read}
 use Rattle.rv_account.proofs.OfState.Words.{reads_on}
 use Rattle.rv_account.proofs.OfState.Words.{key_read, get-append_end, OpenPlace, State, Waiter, line}
 use Rattle.rv_account.proofs.OfState.Words.{place_list}
 use Rattle.rv_account.proofs.OfState.Words.{met_by}
 use Rattle.rv_account.proofs.OfState.Words.{told_met, IsArrival}
+use Rattle.rv_account.specs.declared.entry.Entry.{Entry}
+use Rattle.rv_account.specs.declared.entry.Act.{Act}
+use Rattle.rv_account.specs.declared.entry.Act.TheVariants.{Arrive}
 use Rattle.std.proofs.Common.{filter_map}
 use Rattle.std.specs.Prelude.{unwrap_or}
 use Rattle.rv_account.specs.Account.{items_at, item_at, key_at, partners_items}

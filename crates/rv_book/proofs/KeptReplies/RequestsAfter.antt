@@ -2,11 +2,13 @@
 -- name, which are told at most.
 use Rattle.rv_account.proofs.OfState.Words.{◌≡◌, ◌∙◌, ℕ, [], Option, Some, None, option_map, sym, ap}
 use Rattle.rv_account.proofs.OfState.Words.{none-some}
-use Rattle.rv_account.proofs.OfState.Words.{same_Some, Key, Act, Hello, Arrive, Cancel, Tick, ClientState}
+use Rattle.rv_account.proofs.OfState.Words.{same_Some, Key, ClientState}
 use Rattle.rv_account.proofs.OfState.Words.{LastRequest}
 use Rattle.rv_account.proofs.OfState.Words.{OpenPlace, State, client_at, client_waits, CancelledUnseen, acted}
 use Rattle.rv_account.proofs.OfState.Words.{cancelled}
 use Rattle.rv_account.proofs.OfState.Words.{with_last, refl}
+use Rattle.rv_account.specs.declared.entry.Act.{Act}
+use Rattle.rv_account.specs.declared.entry.Act.TheVariants.{Arrive, Cancel, Hello, Tick}
 use Rattle.rv_account.specs.state.After.{tell_all}
 use Rattle.rv_account.proofs.OfState.ToldClients.{get_other, get_own, get_tell_all, told_client}
 use Rattle.rv_book.specs.reply_cache.Keeping.{client_of}

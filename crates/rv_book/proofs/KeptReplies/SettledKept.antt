@@ -4,11 +4,14 @@ use Rattle.rv_account.proofs.OfState.Words.{◌++◌, ◌≡◌, ◌⊎◌, ◌�
 use Rattle.rv_account.proofs.OfState.Words.{Some, None}
 use Rattle.rv_account.proofs.OfState.Words.{option_and_then, option_map, refl, sym, ap, subst, none-some}
 use Rattle.rv_account.proofs.OfState.Words.{same_Some}
-use Rattle.rv_account.proofs.OfState.Words.{slice_get, Act, Hello, Arrive, Cancel, Tick, Entry, Account}
+use Rattle.rv_account.proofs.OfState.Words.{slice_get, Account}
 use Rattle.rv_account.proofs.OfState.Words.{key_in}
 use Rattle.rv_account.proofs.OfState.Words.{HasWaiting, ClientState, State, Settled, client_at}
 use Rattle.rv_account.proofs.OfState.Words.{client_waits, Waits}
 use Rattle.rv_account.proofs.OfState.Words.{acted, following}
+use Rattle.rv_account.specs.declared.entry.Entry.{Entry}
+use Rattle.rv_account.specs.declared.entry.Act.{Act}
+use Rattle.rv_account.specs.declared.entry.Act.TheVariants.{Arrive, Cancel, Hello, Tick}
 use Rattle.rv_account.proofs.OfRules.Numbers.{same_or_not}
 use Rattle.rv_account.specs.state.Moves.{told_again}
 use Rattle.rv_account.proofs.OfState.Coming.{Comes, more}

@@ -2,11 +2,13 @@
 use Rattle.rv_account.proofs.OfState.Words.{◌≡◌, ◌∙◌, inl, inr, ℕ, List, length, Option, Some}
 use Rattle.rv_account.proofs.OfState.Words.{option_and_then, refl}
 use Rattle.rv_account.proofs.OfState.Words.{sym, ap, subst, slice_get, same_Some, Key, Call, Reply, item_of}
-use Rattle.rv_account.proofs.OfState.Words.{Entry, Act}
-use Rattle.rv_account.proofs.OfState.Words.{Hello, Arrive, Cancel, Tick, Account, ClientState, OpenPlace}
+use Rattle.rv_account.proofs.OfState.Words.{Account, ClientState, OpenPlace}
 use Rattle.rv_account.proofs.OfState.Words.{State}
 use Rattle.rv_account.proofs.OfState.Words.{Settled}
 use Rattle.rv_account.proofs.OfState.Words.{client_at, Waits, acted, told_met}
+use Rattle.rv_account.specs.declared.entry.Entry.{Entry}
+use Rattle.rv_account.specs.declared.entry.Act.{Act}
+use Rattle.rv_account.specs.declared.entry.Act.TheVariants.{Arrive, Cancel, Hello, Tick}
 use Rattle.rv_account.specs.state.State.{call_waiting}
 use Rattle.rv_account.proofs.OfState.Coming.{Comes, more}
 use Rattle.rv_account.proofs.OfState.Filtered.{chained_there}

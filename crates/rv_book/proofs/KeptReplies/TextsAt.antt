@@ -1,6 +1,7 @@
 -- A reply whose text, texts or consumer stand at a place is had again from that place.
-use Rattle.rv_account.proofs.OfState.Words.{◌≡◌, ℕ, List, Some, option_map, refl, ap, Reply, Entry}
+use Rattle.rv_account.proofs.OfState.Words.{◌≡◌, ℕ, List, Some, option_map, refl, ap, Reply}
 use Rattle.rv_account.proofs.OfState.Words.{LastRequest}
+use Rattle.rv_account.specs.declared.entry.Entry.{Entry}
 use Rattle.rv_account.specs.Account.{item_at, key_at, partners_items}
 use Rattle.rv_account.specs.state.Moves.{told_again}
 use Rattle.rv_text.specs.declared.answer.Reply.TheVariants as reply

@@ -1,7 +1,8 @@
 -- What became of a request decides what its account says of a reply.
 use Rattle.rv_account.proofs.OfState.Words.{◌≡◌, ◌∙◌, Some, ap, arith, inl, inr, option_and_then, refl}
 use Rattle.rv_account.proofs.OfState.Words.{subst, sym, ℕ}
-use Rattle.rv_account.proofs.OfState.Words.{Account, act_at, key_in, Arrive, arrives_once, Legal, Call}
+use Rattle.rv_account.proofs.OfState.Words.{Account, act_at, key_in, arrives_once, Legal, Call}
+use Rattle.rv_account.specs.declared.entry.Act.TheVariants.{Arrive}
 use Rattle.rv_account.specs.state.Agreement.{HasReplied}
 use Rattle.rv_replies.specs.findings.Fates.{GivesReply, IsFateOf}
 use Rattle.rv_replies.specs.declared.findings.fate.Fate.{Fate}

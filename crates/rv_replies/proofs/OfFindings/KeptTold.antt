@@ -2,7 +2,8 @@
 -- that call.
 use Rattle.std.specs.Prelude.{◌↔◌}
 use Rattle.rv_account.proofs.OfState.Words.{◌≡◌, ◌∙◌, ap, arith, inl, inr, subst, sym, ℕ, Some}
-use Rattle.rv_account.proofs.OfState.Words.{Account, Call, Key, Reply, act_at, Arrive, arrives_once, Legal}
+use Rattle.rv_account.proofs.OfState.Words.{Account, Call, Key, Reply, act_at, arrives_once, Legal}
+use Rattle.rv_account.specs.declared.entry.Act.TheVariants.{Arrive}
 use Rattle.rv_replies.specs.findings.Fates.{GivesReply}
 use Rattle.rv_replies.specs.findings.Findings.{IsFinding, IsKeptFinding}
 use Rattle.rv_replies.specs.declared.findings.Finding.{Finding}

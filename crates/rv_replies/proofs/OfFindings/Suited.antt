@@ -2,9 +2,11 @@
 use Rattle.std.specs.Prelude.{◌≤◌, zero, suc, List, [], ◌∷◌, length, slice_get}
 use Rattle.rv_account.proofs.OfState.Words.{◌≡◌, ◌∙◌, ◌⊎◌, ap, arith, inl, inr, option_and_then, refl}
 use Rattle.rv_account.proofs.OfState.Words.{subst, sym, ℕ}
-use Rattle.rv_account.proofs.OfState.Words.{Option, Some, None, Account, act_at, Arrive, Entry, Legal, Call}
+use Rattle.rv_account.proofs.OfState.Words.{Option, Some, None, Account, act_at, Legal, Call}
 use Rattle.rv_account.proofs.OfState.Words.{Key, Reply}
 use Rattle.rv_account.proofs.OfState.Words.{Wait, call_in, option_map}
+use Rattle.rv_account.specs.declared.entry.Entry.{Entry}
+use Rattle.rv_account.specs.declared.entry.Act.TheVariants.{Arrive}
 use Rattle.rv_account.proofs.OfState.Filtered.{chained_there, mapped_there}
 use Rattle.rv_text.specs.declared.answer.Reply.TheVariants as reply
 use Rattle.rv_text.specs.declared.call.Call.TheVariants as call
