@@ -76,16 +76,16 @@ impl ShellParts {
     ) -> Result<ShellParts, HostEnd>
         ensures first { IfOk result (λ parts. parts.clock.first ≡ first) }
     {
-        let most_from = options.connections_from as usize;
+        let most_from = options.limits.connections_from as usize;
         let most = (most_from < connections).then_some(most_from);
         let limits = TimeLimits {
-            stall: options.stall.saturating_mul(1_000),
-            idle: options.idle.saturating_mul(1_000),
+            stall: options.limits.stall.saturating_mul(1_000),
+            idle: options.limits.idle.saturating_mul(1_000),
         };
         Ok(ShellParts {
             clock: TurnClock::new(rt, first)?,
             reception: Reception::new(rt, doors, connections, most)?,
-            memory: MemoryWatch::of_megabytes(options.memory),
+            memory: MemoryWatch::of_megabytes(options.limits.memory),
             look_over: LookOver::new(rt.alloc(), connections, limits, first)?,
             links: Links::new(rt.alloc(), connections)?,
             waits: WaitingLists::new(rt.alloc(), connections)?,

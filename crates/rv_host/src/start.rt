@@ -161,7 +161,7 @@ fn descriptors_of(options: &HostOptions<'_>) -> Descriptors {
         connections: open_files
             .saturating_sub(spare(options))
             .max(1)
-            .min(options.connections),
+            .min(options.limits.connections),
     }
 }
 
@@ -308,8 +308,8 @@ fn engine_over(
 {
     let Some(limits) = Limits::new(
         MOST_ENTRIES,
-        options.clients as usize,
-        Some(options.open_places as usize),
+        options.limits.clients as usize,
+        Some(options.limits.open_places as usize),
     ) else {
         return Err(HostEnd::Limits);
     };
@@ -352,9 +352,9 @@ fn tell_start(
         epoch: opening.epoch,
         connections: opening.descriptors.connections,
         open_files: opening.descriptors.open_files,
-        clients: options.clients,
-        open_places: options.open_places,
-        memory: options.memory,
+        clients: options.limits.clients,
+        open_places: options.limits.open_places,
+        memory: options.limits.memory,
         version: VERSION,
     };
     report.say(rt, &start_text(rt.alloc(), &said)?);

@@ -105,7 +105,11 @@ impl StatusDesk {
         let keys = RandomState::new(rt)?;
         let visitors = rv_status::Visitors::new(alloc, keys)?;
         let faults = fault_counts(report, 0);
-        let numbers = StatusNumbers::new(options.clients, options.open_places, faults);
+        let numbers = StatusNumbers::new(
+            options.limits.clients,
+            options.limits.open_places,
+            faults,
+        );
         let status = HostStatus::with_room(alloc, VERSION, numbers)?;
         let names = names_of(alloc, options.status_names)?;
         Ok(StatusDesk {

@@ -1,5 +1,5 @@
 -- The words of `rv help`.
-use Rattle.std.specs.Prelude.{codes, List, map, ℕ, [], ◌∷◌}
+use Rattle.std.specs.Prelude.{codes, List, map, ℕ, [], ◌∷◌, ◌++◌}
 use Rattle.clap.specs.Words.{App, IsAmong, Text, fault_of, kind_of, with_subcommand}
 use Rattle.clap.specs.declared.error.kind.ErrorKind.{ErrorKind}
 use Rattle.clap.specs.declared.error.kind.ErrorKind.TheVariants.{DisplayHelp}
@@ -12,14 +12,18 @@ use Rattle.rv_words.specs.declared.helping.HelpAnswer.{HelpAnswer}
 use Rattle.rv_words.specs.declared.shell.word.ShellWord.TheVariants.{Bench, Count, Drain, Peek, Put}
 use Rattle.rv_words.specs.declared.shell.word.ShellWord.TheVariants.{Swap, Take, Transfer}
 
--- the commands that read their words themselves, but for `host`: `record --to FILE`, as help shows it,
--- `version`, `verify`, and those of a shell
+-- of the commands that read their words themselves: `record --to FILE`, as help shows it, `version` and
+-- `verify`
+abbrev pub own_apps : List App
+own_apps = command_app (codes "record") (codes "to" ∷ []) ∷ command_app (codes "version") [] ∷ verify_app ∷ []
+
+-- the commands of a shell
+abbrev pub shell_apps : List App
+shell_apps = map shell_app (Put ∷ Take ∷ Transfer ∷ Drain ∷ Count ∷ Peek ∷ Swap ∷ Bench ∷ [])
+
+-- all of them but `host`
 abbrev pub other_apps : List App
-other_apps =
-    command_app (codes "record") (codes "to" ∷ [])
-    ∷ command_app (codes "version") []
-    ∷ verify_app
-    ∷ map shell_app (Put ∷ Take ∷ Transfer ∷ Drain ∷ Count ∷ Peek ∷ Swap ∷ Bench ∷ [])
+other_apps = own_apps ++ shell_apps
 
 -- the program with all its commands
 abbrev pub help_app : App

@@ -1,15 +1,17 @@
 //! Reads the words of `rv help`.
-ghost use Rattle.std.specs.Prelude.{◌≡◌, [], codes, false, IfOk, IfSome, IsErrOf, None, true};
+ghost use Rattle.std.specs.Prelude.{◌≡◌, [], codes, false, IfOk, IfSome, IsErrOf, None, map, true};
 ghost use Rattle.clap.specs.Words.{HasKind, app_of, fault_of, is_simple_and_free, kind_of};
 ghost use Rattle.clap.specs.Walk.{texts};
 ghost use Rattle.rv_words.specs.Beginning.{BeginWithout};
 ghost use Rattle.rv_words.specs.Helping.{IsHelpFor, help_app, help_status};
+ghost use Rattle.rv_words.specs.Listed.{with_apps};
+ghost use Rattle.rv_words.specs.shell.Words.{shell_app};
 
 use crate::fault::CommandFault;
-use crate::listed::{ListedCommand, ListedOption, NEEDED, with_commands};
+use crate::listed::{ListedCommand, ListedOption, NEEDED, listed_command, with_commands};
 use crate::options::host_words;
 use crate::program::program;
-use crate::shell::{BENCH, COUNT, DRAIN, PEEK, PUT, SWAP, TAKE, TRANSFER};
+use crate::shell::ShellWord;
 use crate::verifying::VERIFY;
 use crate::words::words_from;
 use clap::error::ErrorKind;
@@ -88,15 +90,33 @@ fn whole_program<'a>(alloc: Global) -> Result<clap::Command<'a>, AllocError>
 {
     let program = program(alloc)?.bin_name("rv")?;
     let program = with_commands(alloc, program, OTHERS)?;
+    let program = with_shell(alloc, program, SHELL)?;
     let host = host_words(alloc)?;
     program.subcommand(host)
+}
+
+// The program with these commands of a shell too.
+fn with_shell<'a>(
+    alloc: Global,
+    program: clap::Command<'a>,
+    words: &[ShellWord],
+) -> Result<clap::Command<'a>, AllocError>
+    ensures { IfOk result (λ p.
+        app_of p ≡ with_apps (app_of program.entry) (map shell_app words.now)) }
+{
+    let mut program = program;
+    for word in words {
+        let command = listed_command(alloc, word.listed())?;
+        program = program.subcommand(command)?;
+    }
+    Ok(program)
 }
 
 // What help says of `record`.
 const RECORD_ABOUT: &str =
     "Do as call does, and append each request and its reply to a file: --to FILE, then its options";
 
-// The commands that read their words themselves, but for `host`.
+// The commands that read their words themselves, but for `host` and those of a shell.
 const OTHERS: &[ListedCommand] = &[
     ListedCommand {
         name: "record",
@@ -113,12 +133,16 @@ const OTHERS: &[ListedCommand] = &[
         options: &[],
     },
     VERIFY,
-    PUT,
-    TAKE,
-    TRANSFER,
-    DRAIN,
-    COUNT,
-    PEEK,
-    SWAP,
-    BENCH,
+];
+
+// The commands of a shell.
+const SHELL: &[ShellWord] = &[
+    ShellWord::Put,
+    ShellWord::Take,
+    ShellWord::Transfer,
+    ShellWord::Drain,
+    ShellWord::Count,
+    ShellWord::Peek,
+    ShellWord::Swap,
+    ShellWord::Bench,
 ];

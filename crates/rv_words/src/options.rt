@@ -6,7 +6,8 @@ ghost use Rattle.clap.specs.Words.{Row, fault_of, first_of, found_of, matches_of
 ghost use Rattle.rv_words.specs.options.Epochs.{FitsRule, SaysRule};
 ghost use Rattle.rv_words.specs.options.Faults.{IsFault, IsFaultOf, WantsStore};
 ghost use Rattle.rv_words.specs.options.Numbers.{Fits, GivesNumber, IsAlwaysThere, WritesWithin, given_for};
-ghost use Rattle.rv_words.specs.options.Options.{FitOptions, NamesOptions, SaysOptions};
+ghost use Rattle.rv_words.specs.options.Options.{FitLimits, FitOptions, NamesOptions};
+ghost use Rattle.rv_words.specs.options.Options.{SaysLimits, SaysOptions};
 ghost use Rattle.rv_words.specs.options.Words.{host_app};
 
 mod epoch;
@@ -47,6 +48,15 @@ pub struct HostOptions<'a> {
     /// The names under which that address is asked, beside `localhost` and each IP address, as they were
     /// written, with commas between them, if there are any.
     pub status_names: Option<&'a str>,
+    /// The limits of its book and of its connections.
+    pub limits: HostLimits,
+    /// Whether it prints nothing except why it ends.
+    pub quiet: bool,
+}
+
+/// The limits of the book and of the connections of `rv host`.
+#[derive(Clone, Copy)]
+pub struct HostLimits {
     /// The most clients that its book takes.
     pub clients: u64,
     /// The most items and requests that are open in it.
@@ -61,8 +71,6 @@ pub struct HostOptions<'a> {
     pub idle: u64,
     /// The seconds after which one is closed that is in the middle of a frame, or whose peer takes no answer.
     pub stall: u64,
-    /// Whether it prints nothing except why it ends.
-    pub quiet: bool,
 }
 
 /// The options that the words of `rv host` name, the word `host` first, as `clap` reads them. A number is
@@ -105,6 +113,18 @@ fn options_of<'a>(given: &ArgMatches<'a>) -> Result<HostOptions<'a>, HostFault<'
         store: store_of(given)?,
         status: text_of(given, "status"),
         status_names: text_of(given, "status-name"),
+        limits: limits_of(given)?,
+        quiet: is_given(given, "quiet"),
+    })
+}
+
+// The limits that they say.
+fn limits_of<'a>(given: &ArgMatches<'a>) -> Result<HostLimits, HostFault<'a>>
+    ensures ok { IfOk result (SaysLimits (rows_of (found_of given.now))) }
+    ensures fits { IfOk result FitLimits }
+    ensures fault { IfErr result (IsFaultOf (rows_of (found_of given.now))) }
+{
+    Ok(HostLimits {
         clients: number_of(given, HostNumber::Clients)?,
         open_places: number_of(given, HostNumber::Open)?,
         connections: number_of(given, HostNumber::Connections)?,
@@ -112,7 +132,6 @@ fn options_of<'a>(given: &ArgMatches<'a>) -> Result<HostOptions<'a>, HostFault<'
         memory: number_of(given, HostNumber::Memory)?,
         idle: number_of(given, HostNumber::Idle)?,
         stall: number_of(given, HostNumber::Stall)?,
-        quiet: is_given(given, "quiet"),
     })
 }
 

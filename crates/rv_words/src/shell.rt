@@ -26,7 +26,6 @@ use rv_text::{Call, Item, Wait, read_between};
 use std::alloc::Global;
 pub use value::ShellValue;
 pub use word::ShellWord;
-pub(crate) use word::{BENCH, COUNT, DRAIN, PEEK, PUT, SWAP, TAKE, TRANSFER};
 
 /// What the words of a shell's command say.
 #[derive(Drop)]

@@ -170,17 +170,19 @@ bare_named options bare = record {
       unsynced = λ set. absurd (false_flag options.no_sync bare.syncs set);
     };
     boots = ap (option_map (λ (b : Bor Text). b.now)) (sym bare.boots_none);
-    clients = given number.Clients rows (codes "65536") 65536 options.clients refl clients_written
-        bare.clients;
-    opens = given number.Open rows (codes "100000") 100000 options.open_places refl open_written
-        bare.opens;
-    connects = given number.Connections rows (codes "10000") 10000 options.connections refl
-        connections_written bare.connects;
-    connects_from = given number.ConnectionsFrom rows (codes "1000000") 1000000 options.connections_from
-        refl from_written bare.connects_from;
-    holds = given number.Memory rows (codes "256") 256 options.memory refl memory_written bare.holds;
-    idles = given number.Idle rows (codes "3600") 3600 options.idle refl idle_written bare.idles;
-    stalls = given number.Stall rows (codes "30") 30 options.stall refl stall_written bare.stalls;
+    limits = record {
+      clients = given number.Clients rows (codes "65536") 65536 options.limits.clients refl clients_written
+          bare.clients;
+      opens = given number.Open rows (codes "100000") 100000 options.limits.open_places refl open_written
+          bare.opens;
+      connects = given number.Connections rows (codes "10000") 10000 options.limits.connections refl
+          connections_written bare.connects;
+      connects_from = given number.ConnectionsFrom rows (codes "1000000") 1000000
+          options.limits.connections_from refl from_written bare.connects_from;
+      holds = given number.Memory rows (codes "256") 256 options.limits.memory refl memory_written bare.holds;
+      idles = given number.Idle rows (codes "3600") 3600 options.limits.idle refl idle_written bare.idles;
+      stalls = given number.Stall rows (codes "30") 30 options.limits.stall refl stall_written bare.stalls;
+    };
     is_quiet = unset options.quiet (codes "quiet") bare.speaks refl;
   };
 }
@@ -198,14 +200,15 @@ bare_alone options named =
       stores_none = no_text options.store (said.stores);
       tells_none = no_text options.status (said.tells);
       tells_as_none = no_text options.status_names (said.tells_as);
-      clients = given_alone number.Clients rows (codes "65536") options.clients refl said.clients;
-      opens = given_alone number.Open rows (codes "100000") options.open_places refl said.opens;
-      connects = given_alone number.Connections rows (codes "10000") options.connections refl
-          said.connects;
-      connects_from = given_alone number.ConnectionsFrom rows (codes "1000000") options.connections_from refl
-          said.connects_from;
-      holds = given_alone number.Memory rows (codes "256") options.memory refl said.holds;
-      idles = given_alone number.Idle rows (codes "3600") options.idle refl said.idles;
-      stalls = given_alone number.Stall rows (codes "30") options.stall refl said.stalls;
+      clients = given_alone number.Clients rows (codes "65536") options.limits.clients refl
+          said.limits.clients;
+      opens = given_alone number.Open rows (codes "100000") options.limits.open_places refl said.limits.opens;
+      connects = given_alone number.Connections rows (codes "10000") options.limits.connections refl
+          said.limits.connects;
+      connects_from = given_alone number.ConnectionsFrom rows (codes "1000000")
+          options.limits.connections_from refl said.limits.connects_from;
+      holds = given_alone number.Memory rows (codes "256") options.limits.memory refl said.limits.holds;
+      idles = given_alone number.Idle rows (codes "3600") options.limits.idle refl said.limits.idles;
+      stalls = given_alone number.Stall rows (codes "30") options.limits.stall refl said.limits.stalls;
       speaks = true_flag options.quiet (λ set. no_flag _ refl (said.is_quiet.0 set));
     }

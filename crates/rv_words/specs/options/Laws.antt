@@ -20,13 +20,13 @@ pub record AreBare (options : HostOptions) : Type 0 where
   pub stores_none : options.store ≡ None
   pub tells_none : options.status ≡ None
   pub tells_as_none : options.status_names ≡ None
-  pub clients : options.clients ≡ 65536
-  pub opens : options.open_places ≡ 100000
-  pub connects : options.connections ≡ 10000
-  pub connects_from : options.connections_from ≡ 1000000
-  pub holds : options.memory ≡ 256
-  pub idles : options.idle ≡ 3600
-  pub stalls : options.stall ≡ 30
+  pub clients : options.limits.clients ≡ 65536
+  pub opens : options.limits.open_places ≡ 100000
+  pub connects : options.limits.connections ≡ 10000
+  pub connects_from : options.limits.connections_from ≡ 1000000
+  pub holds : options.limits.memory ≡ 256
+  pub idles : options.limits.idle ≡ 3600
+  pub stalls : options.limits.stall ≡ 30
   pub speaks : options.quiet ≡ false
 
 -- the words name such options

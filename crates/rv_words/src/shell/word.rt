@@ -153,49 +153,49 @@ const JSON: ListedOption = ListedOption {
     ..FLAG
 };
 
-pub(crate) const PUT: ListedCommand = ListedCommand {
+const PUT: ListedCommand = ListedCommand {
     name: "put",
     about: "Put an item into a queue, as in: rv put 3 'job 1'",
     options: &[QUEUE, ITEM_OR_LINES, CONNECT, NULL, JSON],
 };
 
-pub(crate) const TAKE: ListedCommand = ListedCommand {
+const TAKE: ListedCommand = ListedCommand {
     name: "take",
     about: "Take the oldest item of a queue, and print it, as in: rv take 3 --wait 10s",
     options: &[QUEUE, WAIT, CONNECT, NULL, JSON],
 };
 
-pub(crate) const TRANSFER: ListedCommand = ListedCommand {
+const TRANSFER: ListedCommand = ListedCommand {
     name: "transfer",
     about: "Hand an item over to a consumer, and print who took it, as in: rv transfer 3 'job 1' --wait 1m",
     options: &[QUEUE, ITEM, WAIT, CONNECT, NULL, JSON],
 };
 
-pub(crate) const DRAIN: ListedCommand = ListedCommand {
+const DRAIN: ListedCommand = ListedCommand {
     name: "drain",
     about: "Take the oldest items of a queue in one step, and print them, as in: rv drain 3 --max 16",
     options: &[QUEUE, MAX, CONNECT, NULL, JSON],
 };
 
-pub(crate) const COUNT: ListedCommand = ListedCommand {
+const COUNT: ListedCommand = ListedCommand {
     name: "count",
     about: "Count the items and the consumers that wait at a queue, as in: rv count 3",
     options: &[QUEUE, CONNECT, NULL, JSON],
 };
 
-pub(crate) const PEEK: ListedCommand = ListedCommand {
+const PEEK: ListedCommand = ListedCommand {
     name: "peek",
     about: "Print the oldest item of a queue, which stays, as in: rv peek 3",
     options: &[QUEUE, CONNECT, NULL, JSON],
 };
 
-pub(crate) const SWAP: ListedCommand = ListedCommand {
+const SWAP: ListedCommand = ListedCommand {
     name: "swap",
     about: "Swap an item at an exchanger, and print the other one, as in: rv swap 0 mine",
     options: &[EXCHANGER, ITEM, WAIT, CONNECT, NULL, JSON],
 };
 
-pub(crate) const BENCH: ListedCommand = ListedCommand {
+const BENCH: ListedCommand = ListedCommand {
     name: "bench",
     about: "Measure puts, takes and hand-overs a second at a queue where nothing waits, as in: rv bench 63",
     options: &[QUEUE, CONNECT],

@@ -19,13 +19,7 @@ returns-clause-ok c = record {
     unsynced = in_store _ _ _ c.in_ok-store_of.ensures.ok c.in_ok-flag_in_store-2.ensures.in_store;
   };
   boots = sym c.text_of-2.ensures;
-  clients = c.in_ok-number_of.ensures.ok;
-  opens = c.in_ok-number_of-2.ensures.ok;
-  connects = c.in_ok-number_of-3.ensures.ok;
-  connects_from = c.in_ok-number_of-4.ensures.ok;
-  holds = c.in_ok-number_of-5.ensures.ok;
-  idles = c.in_ok-number_of-6.ensures.ok;
-  stalls = c.in_ok-number_of-7.ensures.ok;
+  limits = c.in_ok-limits_of.ensures.ok;
   is_quiet = c.is_given.ensures;
 }
 
@@ -37,11 +31,5 @@ returns-clause-fits c = record {
     unsynced = in_store _ _ _ c.in_ok-store_of.ensures.ok c.in_ok-flag_in_store-2.ensures.in_store;
   };
   one_account = one_account _ _ _ c.text_of-3.ensures c.in_ok-store_of.ensures.alone;
-  clients = c.in_ok-number_of.ensures.fits;
-  opens = c.in_ok-number_of-2.ensures.fits;
-  connects = c.in_ok-number_of-3.ensures.fits;
-  connects_from = c.in_ok-number_of-4.ensures.fits;
-  holds = c.in_ok-number_of-5.ensures.fits;
-  idles = c.in_ok-number_of-6.ensures.fits;
-  stalls = c.in_ok-number_of-7.ensures.fits;
+  limits = c.in_ok-limits_of.ensures.fits;
 }

@@ -1,5 +1,5 @@
 -- Where there is an account, there is no store.
-use Rattle.std.proofs.Common.{◌≡◌, ◌∙◌, sym}
+use Rattle.std.proofs.Common.{◌∙◌, sym}
 use Rattle.rv_words.proofs.OfOptions.Keeping.{no_value, there}
 use Rattle.rv_words.proofs.options.store_of.Goals as goal
 use Rattle.rv_words.proofs.options.store_of.Goals.{else-is_some-via-else-is_some}
