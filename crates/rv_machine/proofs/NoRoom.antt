@@ -171,7 +171,7 @@ module _ (limits : StepLimits) (m : Holdings) (ready : IsWhole m) (numbered : Ar
 -- ---- where no session is opened
 
 -- the greeting opens no session under the limits
-abbrev OpensNone : StepLimits → Holdings → Greeting → Type 0
+abbrev pub OpensNone : StepLimits → Holdings → Greeting → Type 0
 OpensNone limits m Unknown = limits.clients ≤ len m.clients.clients
 OpensNone limits m Full = limits.clients ≤ len m.clients.clients
 OpensNone limits m (Newer waiting) = ⊥

@@ -2,7 +2,7 @@
 -- but for want of memory.
 use Rattle.std.proofs.Common.{◌≡◌, ◌≢◌, ◌⊎◌, ◌<◌, ◌≤◌, ◌+◌, ◌∙◌, ℕ, zero, suc, Option, Some, None, inl, inr}
 use Rattle.std.proofs.Common.{subst}
-use Rattle.std.proofs.Common.{sym, ap, arith, cond, is_some, []}
+use Rattle.std.proofs.Common.{sym, ap, arith, cond, is_some, [], ◌∷◌, List, max, min, refl}
 use Rattle.std.specs.FinMap.{insert, len, len-insert}
 use Rattle.std.specs.Cmp.{nat_cmp_total}
 use Rattle.rv_text.specs.declared.call.Call.{Call}
@@ -22,21 +22,23 @@ use Rattle.rv_text.specs.declared.answer.Reply.TheVariants.{Cancelled}
 use Rattle.rv_account.specs.declared.entry.Act.TheVariants as act
 use Rattle.rv_account.specs.Calls.{need_by, need_of}
 use Rattle.rv_session.specs.Clients.{fresh_state, place_waiting}
-use Rattle.rv_account.specs.state.State.{ClientState, State, client_at, waiting_count}
-use Rattle.rv_account.specs.state.After.{following}
+use Rattle.rv_account.specs.state.State.{ClientState, OpenPlace, State, client_at, waiting_count}
+use Rattle.rv_account.specs.state.After.{due_at, following}
 use Rattle.rv_account.specs.state.Follows.{NumberIsNext, NumberWaits}
-use Rattle.rv_account.specs.rules.Steps.{RefuseOr}
+use Rattle.rv_account.specs.rules.Steps.{RefuseOr, max_moment}
 use Rattle.rv_account.specs.state.Moves.{EntersMove, Move, NoEntryMoreUnder, StateKeyLines, StateNextAtUnder}
-use Rattle.rv_account.specs.state.Moves.{answer_after, answer_told, entering, staying}
+use Rattle.rv_account.specs.state.Moves.{Ticked, answer_after, answer_told, entering, state_moment, staying}
+use Rattle.rv_account.specs.state.Moves.{ticked_at, ticked_if, ticking}
 use Rattle.rv_account.proofs.OfState.Words.{none-some, same_Some}
 use Rattle.rv_account.specs.rules.StepLimits.{StepLimits}
 use Rattle.rv_machine.specs.declared.tables.Holdings.{Holdings}
 use Rattle.rv_machine.specs.declared.machine.Said.{Said}
 use Rattle.rv_machine.specs.declared.machine.Said.TheVariants as said
 use Rattle.rv_machine.specs.declared.steps.Heard.{Heard}
+use Rattle.rv_machine.specs.declared.steps.TickMade.{TickMade}
 use Rattle.rv_account.specs.rules.Reach.{widest}
 use Rattle.rv_machine.specs.Machines.{Says, keys_settled, state_in}
-use Rattle.rv_machine.specs.Stepping.{IsHearing}
+use Rattle.rv_machine.specs.Stepping.{IsHearing, IsTick}
 use Rattle.rv_machine.specs.Needing.{act_of}
 use Rattle.rv_machine.specs.Redoing.{MayRedo, IsRedone, NeedsNoMemory}
 use Rattle.rv_machine.proofs.HelloMoves.{greeted_idle}
@@ -302,3 +304,28 @@ module _ (old new : Holdings) (moment : ℕ) (m : Message) (made : Heard) (on : 
   heard_spares none r is =
       let does = spares (state_in old) on.resumes moment hears.move m on hears.moves none in
       does.1 r (sym (ap (λ (x : Move). x.answer) does.2) ∙ refused_by r is)
+
+-- ---- a tick
+
+middle_is : (least moment most : ℕ) → least ≤ moment → moment ≤ most → max least (min moment most) ≡ moment
+middle_is least moment most above below = omega arith
+
+ticks_due : (s : State) (moment : ℕ) (due : List OpenPlace) → due ≢ []
+    → ticked_if s moment due ≡ ticking s moment
+ticks_due s moment [] some = absurd (some refl)
+ticks_due s moment (first ∷ others) some = refl
+
+-- the tick of a step at the moment of one that is redone ends the same
+pub ticked_again : (old new : Holdings) (moment : ℕ) (made : TickMade)
+    → MayRedo (state_in old) moment act.Tick → moment ≤ max_moment
+    → made.moment ≡ state_moment (state_in old) moment → IsTick old new made
+    → IsRedone old new moment act.Tick
+ticked_again old new moment made on most at ticks = record {
+  after = ticks.after ∙ ap (λ (t : Ticked). t.after) is;
+  settles = ticks.settles ∙ ap (λ (t : Ticked). keys_settled t.settles) is;
+}
+  where
+    is : ticked_at (state_in old) made.moment ≡ ticking (state_in old) moment
+    is = ap (ticked_at (state_in old))
+        (at ∙ middle_is old.moment moment max_moment on.moment_fits.not_before most)
+        ∙ ticks_due (state_in old) moment (due_at (state_in old) moment) on.moment_fits.due

@@ -1,6 +1,8 @@
 -- What an arrival that has space moves, and one that has none.
-use Rattle.std.proofs.Common.{◌≤◌, ◌+◌, ◌∙◌, subst, sym}
+use Rattle.std.proofs.Common.{◌≤◌, ◌+◌, ◌∙◌, refl, subst, sym}
 use Rattle.std.proofs.lemmas.Bool.{false≢true}
+use Rattle.rv_account.specs.state.State.{State}
+use Rattle.rv_machine.specs.Numbering.{AreNumbered}
 use Rattle.rv_machine.specs.open_places.OpenMap.{most_counted}
 use Rattle.rv_machine.specs.open_places.OpenMap.{count_waiting}
 use Rattle.rv_machine.proofs.KeyLines.{number_next}
@@ -56,3 +58,16 @@ returns-in-Err-clause-err c =
     c.requires.next c.need_of.result c.need_of.ensures.exact (c.is_full.ensures.space c.if-is_full.false)
     (λ lacks. false≢true (sym c.if-lacks_place.false ∙ c.lacks_place.ensures.1 lacks))
     c.in-Err.ensures.err
+
+pub returns-in-Ok-clause-none : goal.returns-in-Ok-clause-none
+returns-in-Ok-clause-none c = λ is. cc
+
+pub returns-in-Err-clause-numbered : goal.returns-in-Err-clause-numbered
+returns-in-Err-clause-numbered c =
+    subst (λ (s : State). AreNumbered s) (sym c.in-Err.ensures.err.state) c.requires.numbered
+
+pub returns-in-Err-clause-none : goal.returns-in-Err-clause-none
+returns-in-Err-clause-none c = λ is. cc
+
+pub returns-in-Err-clause-refused : goal.returns-in-Err-clause-refused
+returns-in-Err-clause-refused c = λ other. absurd (other refl)

@@ -38,3 +38,9 @@ returns-in-CancelledUnseen-clause-ok c =
     repeats_request c.args.limits.now c.args.self.now c.args.moment c.args.key c.args.call c.requires.numbered
     CancelledUnseen
     (λ e. cc) c.in-CancelledUnseen.ensures.means (λ came is. cc)
+
+pub returns-in-Refused-clause-none : goal.returns-in-Refused-clause-none
+returns-in-Refused-clause-none c = λ _. refl
+
+pub returns-in-Refused-clause-refused : goal.returns-in-Refused-clause-refused
+returns-in-Refused-clause-refused c = λ _. refl

@@ -1,7 +1,9 @@
 -- One that was open before is open again.
-use Rattle.std.proofs.Common.{◌+◌, arith, subst, sym, List}
+use Rattle.std.proofs.Common.{◌∙◌, ◌+◌, ◌++◌, ◌∷◌, [], ap, arith, subst, sym, List}
+use Rattle.rv_due.specs.Deadlines.{Deadlines}
 use Rattle.rv_account.specs.state.State.{OpenPlace}
 use Rattle.rv_machine.specs.open_places.Indexed.{AreIndexed}
+use Rattle.rv_machine.specs.open_places.OpenMap.{StandBelow}
 use Rattle.rv_machine.specs.open_places.Reopening.{MayReopen}
 use Rattle.rv_machine.proofs.OfOpenPlaces.Laying.{all_below}
 use Rattle.rv_machine.proofs.OfOpenPlaces.Parking.{same_index}
@@ -49,3 +51,29 @@ pub returns-clause-last : goal.returns-clause-last
 returns-clause-last c =
     claims_up_to c.args.opened c.args.claims.now.table.clients c.requires.stands c.args.claims.now.last
     c.owed-duty.new.claims.last c.owed-duty.result c.owed-duty.ensures.duty c.owed-duty.ensures.last
+
+pub returns-in_err-reserve_on-clause-last : goal.returns-in_err-reserve_on-clause-last
+returns-in_err-reserve_on-clause-last c = λ other above is. is
+
+pub lay-requires : goal.lay-requires
+lay-requires c =
+    subst (λ (all : List OpenPlace). StandBelow all c.args.opened.place) (sym c.self.view_is)
+    c.requires.below
+
+pub invariant_of-self-in_err-lay : goal.invariant_of-self-in_err-lay
+invariant_of-self-in_err-lay c =
+    let is = same_index c.self.inside.opens c.self.inside.wait_queues c.reserve_on.new.self
+    c.self.inside.waiting
+    c.self.inside.due c.self.invariant c.in_ok-reserve_on.ensures.makes.same in
+    subst (λ (due : Deadlines). AreIndexed c.lay.new.opens c.reserve_on.new.self c.self.inside.waiting due)
+    (sym c.in_err-lay.ensures.due)
+    (subst (λ (all : List OpenPlace). AreIndexed all c.reserve_on.new.self c.self.inside.waiting
+    c.self.inside.due)
+    (sym c.in_err-lay.ensures.opens) is)
+
+pub returns-in_err-lay-clause-last : goal.returns-in_err-lay-clause-last
+returns-in_err-lay-clause-last c = λ other above is. is
+
+pub returns-clause-ok : goal.returns-clause-ok
+returns-clause-ok c =
+    c.in_ok-lay.ensures.opened ∙ ap (λ (all : List OpenPlace). all ++ c.args.opened ∷ []) c.self.view_is
