@@ -1,6 +1,6 @@
 -- Stamps that are got for a frame, one after the other.
 use Rattle.std.proofs.Common.{add-zero, ◌≡◌, ◌∙◌, ◌+◌, ◌++◌, ◌∷◌, ◌≤◌, [], ℕ, Bool, List, true, ap, arith}
-use Rattle.std.proofs.Common.{subst, sym, append_assoc, Err, IfErr, Ok, OnErr, Result, refl}
+use Rattle.std.proofs.Common.{subst, sym, append_assoc, Err, IfErr, IfOk, IsOkAnd, Ok, OnErr, Result, refl}
 use Rattle.std.specs.List.{All}
 use Rattle.std.proofs.lemmas.List.Elements.{All-append, All-cons, All-head, All-nil, All-tail}
 use Rattle.std.proofs.lemmas.List.Sums.{sum_by-append, sum_by-cons}
@@ -170,9 +170,10 @@ none_waited number body share old = record {
 }
 
 pub waiting_behind : (number : ℕ) (body : List ℕ) (share share' share'' : ℕ) (old mid new : List Numbered)
-    (told : FrameAnswer)
-    → OnlyWaited number body share old share' mid → Waits told
-    → GetsTold number body share' mid share'' new told → OnlyWaited number body share old share'' new
-waiting_behind number body share share' share'' old mid new told first waits second =
+    (asked : Result FrameAnswer WorkFault)
+    → OnlyWaited number body share old share' mid → IsOkAnd asked Waits
+    → IfOk asked (GetsTold number body share' mid share'' new) → OnlyWaited number body share old share'' new
+waiting_behind number body share share' share'' old mid new (Ok told) first waits second =
     waits_behind number body share share' share'' old mid new waits.answer first waits.waiting
     (subst (λ (t : FrameAnswer). GetsTold number body share' mid share'' new t) waits.is second)
+waiting_behind number body share share' share'' old mid new (Err cause) first waits second = absurd waits

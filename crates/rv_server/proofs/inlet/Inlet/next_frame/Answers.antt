@@ -97,3 +97,15 @@ loop-body-smaller g c =
     subst (λ (t : Stream). wanted c.read_on.new.self < wanted t) same
     (wants_less g.R.Read.remaining c.loop-body.source c.read_on.new.source c.whole_frame.new.self
     c.read_on.new.self c.in_ok-read_on.field-0 came none follows c.in_ok-read_on.ensures)
+
+pub returns-in_err-flush-clause-none_written : goal.returns-in_err-flush-clause-none_written
+returns-in_err-flush-clause-none_written g c =
+    Appends-trans _ _ _ _ _ c.loop-body.invariant.none_written c.in_err-flush.ensures.bytes
+
+pub returns-in_err-read_on-clause-none_written : goal.returns-in_err-read_on-clause-none_written
+returns-in_err-read_on-clause-none_written g c =
+    Appends-trans _ _ _ _ _ c.loop-body.invariant.none_written c.in_ok-flush.ensures.bytes
+
+pub returns-then-not-branch-clause-none_written : goal.returns-then-not-branch-clause-none_written
+returns-then-not-branch-clause-none_written g c =
+    Appends-trans _ _ _ _ _ c.loop-body.invariant.none_written c.in_ok-flush.ensures.bytes
