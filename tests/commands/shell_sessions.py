@@ -499,6 +499,17 @@ class Benches(Case):
         self.check("with the item", b"of somebody else" in ran.said, ran.said)
         self.check_equal("what was asked", [each.get("call") for each in server.heard[1]], [None, "put", "take"])
 
+    def test_other_items(self) -> None:
+        """Each item of others that its takes got is told, also one that comes after a reply that ends it."""
+        scripts = [[welcomes(), DONE, replies(reply="item", item="theirs")], [welcomes(), DONE],
+                   [welcomes(), DONE, replies(reply="item", item="another's")]]
+        others = [[welcomes(), DONE] for _ in range(AT_ONCE - len(scripts))] + [[welcomes()] for _ in range(AT_ONCE)]
+        with Beside([welcomes(), COUNTED], *scripts, *others) as server:
+            ran = Shell(self.program, server.address).ran("bench", "3")
+        self.check_equal("its status", (ran.printed, ran.status), (b"", NO_SERVER))
+        items = sorted(line.rpartition(b": ")[2] for line in ran.said.splitlines())
+        self.check_equal("each is told", items, [b"another's", b"theirs"])
+
 
 def load_tests(_: unittest.TestLoader, suite: unittest.TestSuite, __: str | None) -> unittest.TestSuite:
     """The cases, side by side."""

@@ -1,5 +1,5 @@
 -- What came of the next line, from the put that was taken and its end.
-use Rattle.std.proofs.Common.{◌≡◌, ◌∙◌, List, Option, Some, None, ℕ, subst, sym}
+use Rattle.std.proofs.Common.{◌≡◌, List, Option, Some, ℕ, subst, sym}
 use Rattle.std.specs.Prelude.{IsSomeAnd, IsUtf8, Ok}
 use Rattle.rv_json.specs.Limits.{FitsItem}
 use Rattle.rv_text.specs.Limits.{FitsCall}
@@ -9,7 +9,7 @@ use Rattle.rv_text.specs.declared.message.Key.{Key}
 use Rattle.rv_client.specs.Link.{Link}
 use Rattle.rv_client.specs.Process.{Starting}
 use Rattle.rv_commands.specs.Asking.{EndsCall, key_asked}
-use Rattle.rv_commands.specs.Lines.{AsksPut, IsNextPut, KeepsOpen, LeavesOpen, TakesOpen, TakesStep}
+use Rattle.rv_commands.specs.Lines.{AsksPut, IsNextPut, KeepsOpen, TakesOpen, TakesStep}
 use Rattle.rv_commands.specs.declared.asking.CallEnd.{CallEnd}
 use Rattle.rv_commands.specs.declared.asking.CallEnd.TheVariants as ends
 use Rattle.rv_commands.specs.declared.lines.LineEnd.{LineEnd}

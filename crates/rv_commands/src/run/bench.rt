@@ -168,12 +168,16 @@ impl<'a> Peers<'a> {
         Ok(())
     }
 
-    // Hears the reply of each.
+    // Hears the reply of each, whatever those before it were. The first that isn't as it should be is why the
+    // bench ends; a further item of somebody else's is told at once.
     fn hear_all(&mut self) -> Result<(), ShellEnd> {
+        let mut heard = Ok(());
         for peer in &mut self.all {
-            peer.hear(self.rt)?;
+            if let Err(end) = peer.hear(self.rt) {
+                heard = heard_first(self.rt, heard, end);
+            }
         }
-        Ok(())
+        heard
     }
 
     // This moment.
@@ -187,6 +191,22 @@ impl<'a> Peers<'a> {
         let nanos = u128::saturating_add(span.as_nanos(), 1);
         u64::try_from(u128::saturating_mul(calls, 1_000_000_000) / nanos).unwrap_or(u64::MAX)
     }
+}
+
+// The first reason why a bench ends: the one that it had, or else this one. An item that isn't that reason is
+// told here.
+fn heard_first(
+    rt: &HostRuntime,
+    heard: Result<(), ShellEnd>,
+    end: ShellEnd,
+) -> Result<(), ShellEnd> {
+    if heard.is_ok() {
+        return Err(end);
+    }
+    if matches!(end, ShellEnd::NotOwn(_, _)) {
+        let _ = eprintln!(rt; "{end}");
+    }
+    heard
 }
 
 // What is done over each connection at once.
@@ -226,12 +246,12 @@ fn own_item(rt: &HostRuntime) -> Result<Item, ShellEnd> {
     Ok(Item::from_text(String::from_str(rt.alloc(), ITEM)?))
 }
 
-// Whether an item is the bench's.
-fn check_item(item: Item) -> Result<(), ShellEnd> {
+// Whether an item of this queue is the bench's.
+fn check_item(queue: u64, item: Item) -> Result<(), ShellEnd> {
     if item.as_str() == ITEM {
         Ok(())
     } else {
-        Err(ShellEnd::NotOwn(item.into_text()))
+        Err(ShellEnd::NotOwn(queue, item.into_text()))
     }
 }
 
@@ -306,7 +326,7 @@ impl Peer {
     fn check(&self, reply: Reply) -> Result<(), ShellEnd> {
         match reply {
             Reply::Done | Reply::Received | Reply::ReceivedBy(_) => Ok(()),
-            Reply::Item(item) => check_item(item),
+            Reply::Item(item) => check_item(self.queue, item),
             _ => Err(self.broken()),
         }
     }

@@ -32,8 +32,8 @@ pub(crate) enum ShellEnd {
     Unrecorded(String, WriteFault),
     /// Items or consumers wait at the queue of this number.
     Busy(u64),
-    /// A take of the bench got this item, which was somebody else's.
-    NotOwn(String),
+    /// A take of the bench in this queue got this item, which was somebody else's.
+    NotOwn(u64, String),
     /// A call of the bench came to nothing, in this queue.
     Broken(u64),
     /// Memory was refused.
@@ -82,7 +82,11 @@ impl fmt::Display for ShellEnd {
             ShellEnd::Clock => f.write_str("the clock gives no incarnation"),
             ShellEnd::Unprinted => f.write_str("standard output didn't take the reply"),
             ShellEnd::Busy(queue) => write!(f, "QUEUE {queue}: items or consumers wait there"),
-            ShellEnd::NotOwn(item) => {
+            ShellEnd::NotOwn(queue, item) => {
+                write!(
+                    f,
+                    "one item `rv bench` may be left in queue {queue}, where "
+                )?;
                 write!(
                     f,
                     "a take got an item that somebody else put meanwhile: {item}"
