@@ -47,10 +47,8 @@ def the_largest_is_closed(program: str) -> None:
         with closing([host.greeted(client) for client in range(1, len(BEHIND) + 2)]) as peers:
             demand(sum(BEHIND) <= BYTES < sum(BEHIND) + MORE, "what is held is not such that just one is too much")
             wait_behind(peers, BEHIND)
-            until("the host rests", host.rests)
             host.at(ASKED)
             wait_behind(peers[-1:], [MORE], len(peers))
-            until("the host rests", host.rests)
             host.at(ASKED + 1_000 * STALL - 1)
             demand(host.accepted() == len(peers), f"of {len(peers)} {host.accepted()} are left before it was full for so long")
             host.at(ASKED + 1_000 * STALL + LOOK_OVER)
@@ -91,7 +89,6 @@ def filled(program: str, behind: list[int], begun: bytes = b"") -> Iterator[tupl
         deaf = host.connect(receive=KEPT)
         with deaf, closing([host.greeted(client) for client in range(1, len(behind) + 1)]) as waiting, host.connect() as late:
             late.send(begun)
-            until("the host rests", host.rests)
             host.at(ASKED)
             ask_and_never_read(deaf, len(behind) + 1, QUESTIONS)
             # it takes no more for good, before others make the bound full

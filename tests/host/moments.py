@@ -55,11 +55,14 @@ class Stopped(HostileHost):
         super().__init__(program, system, **more)
 
     def set(self, moment: int, **numbers: int) -> None:
-        """The clock shows so many milliseconds since the start."""
+        """The clock shows so many milliseconds since the start, whatever the host does."""
         self.system.be(stopped=START + moment, kept=KEPT, **numbers)
 
     def at(self, moment: int, **numbers: int) -> None:
-        """The same, and the host has done all that is to be done then."""
+        """The same once the host rests, and then it has done all that is to be done at that moment. The clock isn't set while the host
+        turns: a poll in Python reads it once more, after the host has computed how long to wait, and counts from that reading. If the
+        clock were set between the two, the host would wait too long."""
+        until("the host rests", self.rests)
         self.set(moment, **numbers)
         until("the host rests", self.rests)
 
@@ -105,7 +108,6 @@ def told_that_it_waits_at_ten_seconds(program: str) -> None:
         host.at(ASKED)
         for told in range(ASKED + TOLD, ASKED + 4 * TOLD, TOLD):
             peer.send(frame(request(key, call)))
-            until("the host rests", host.rests)
             host.at(told - 1)
             demand(is_silent(peer), f"it was told before {TOLD} milliseconds that its request waits")
             host.set(told)
@@ -133,7 +135,6 @@ def stalled_and_idle_ends(program: str) -> None:
                 # what the system still takes of the answers it has then
                 until("the host rests", host.rests)
                 idle.expect(hello(2), welcome(2))
-            until("the host rests", host.rests)
             for limit, before, after in ((STALL, 4, 2), (IDLE, 2, 1)):
                 host.at(ASKED + limit * 1_000 - 1)
                 demand(host.accepted() == before, f"before {limit} seconds {host.accepted()} of {before} connections are left")
@@ -153,7 +154,6 @@ def a_byte_a_second(program: str) -> None:
             for second in range(STALL):
                 host.at(moment)
                 slow.send(parts[second:second + 1])
-                until("the host rests", host.rests)
                 host.at(moment + LOOK_OVER // 2)
                 busy.send(frame(hello(2))[PART:] + frame(hello(2))[:PART])
                 demand(busy.hear() == welcome(2), "who is within another frame at each look is told something else")
@@ -178,7 +178,6 @@ def bytes_that_wait_for_a_share(program: str) -> None:
             for peer in peers:
                 peer.send(TEXT[:PART])
             until("all are accepted", lambda: host.accepted() == SHARERS)
-            until("the host rests", host.rests)
             host.at(ASKED)
             os.kill(host.process.pid, signal.SIGSTOP)
             for peer in peers:
@@ -205,7 +204,6 @@ def accepting_is_tried_again(program: str) -> None:
         host.at(ASKED, accept=1)
         with closing(connected(host.port, 1)) as (peer,):
             until("accepting fails", lambda: host.system.made("accept") > 0)
-            until("the host rests", host.rests)
             peer.send(frame(hello(1)))
             host.at(ASKED + AGAIN - 1)
             demand(host.accepted() == 0, "accepting was tried again before a tenth of a second was over")
@@ -224,7 +222,7 @@ def samples_of_the_status(program: str) -> None:
         with host.greeted(1) as peer:
             for number, call in enumerate(calls, 1):
                 peer.ask(request(Key(1, 1, 1, number), call))
-        host.set(SAMPLE)
+        host.at(SAMPLE)
         wanted = [[0, 0, 0, head], [SAMPLE // 1_000, 1 + len(calls), 1, host.counted()]]
         history = json.loads(told_at(host, port, SAMPLE))["history"]
         demand(history[:2] == wanted, f"the samples are {history}, not {wanted}")
@@ -253,12 +251,10 @@ def times_of_answers(program: str) -> None:
         until("the host rests", host.rests)
         with host.greeted(1) as first, host.greeted(2) as second:
             keys = [Key(1, 1, 1, 1), Key(1, 1, 1, 2), Key(1, 2, 1, 1)]
-            until("the host rests", host.rests)
             host.at(ASKED)
             first.send(frame(request(keys[0], take(300))) + frame(request(keys[1], {"call": "count", "queue": 7})))
             late = frame(request(keys[2], take(200)))
             second.send(late[:PART])
-            until("the host rests", host.rests)
             host.at(ASKED + 100)
             second.send(late[PART:])
             until("the host rests", host.rests)
@@ -266,7 +262,6 @@ def times_of_answers(program: str) -> None:
             for peer, key in ((first, keys[0]), (second, keys[2])):
                 demand(peer.hear() == replied(key, reply="timedout"), "who waited is told something else")
             demand(first.hear() == replied(keys[1], reply="counted", items=0, consumers=0), "who counts is told something else")
-            until("the host rests", host.rests)
             host.at(SAMPLE)
             told = read_numbers(page_at(host, port, SAMPLE))
         answers, turns = buckets(told, "rv_answer_seconds"), buckets(told, "rv_turn_seconds")

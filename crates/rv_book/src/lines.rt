@@ -18,5 +18,5 @@ mod written;
 pub use account::{read_account, read_head};
 pub use entry::read_entry;
 pub use fault::{AccountFault, LineFault};
-pub use line::{cut_at, first_line};
+pub use line::{after_text, cut_at, first_line};
 pub use written::{entry_line, head_line};

@@ -2,8 +2,8 @@
 //!
 //! They test a list of events, the copy of an account, room on both sides of a queue, and that a deadline
 //! that is there takes no memory; the fault that a request or a worker meets at its link, how often devices
-//! are asked, and sizes that no program has; how many of its connections a server counts as served; and a
-//! journal over a file that a crash left, and a store over a folder.
+//! are asked, and sizes that no program has; how many of its connections a server counts as served; the lines
+//! of a checkpoint; and a journal over a file that a crash left, and a store over a folder.
 //!
 //! ```
 //! fn room_is_made_on_both_sides(rt: HostRuntime) {
@@ -16,6 +16,8 @@
 mod accounts;
 #[cfg(test)]
 mod asks;
+#[cfg(test)]
+mod checkpoints;
 #[cfg(test)]
 mod counts;
 #[cfg(test)]

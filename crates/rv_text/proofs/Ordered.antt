@@ -8,7 +8,7 @@ use Rattle.rv_text.specs.declared.call.Side.{Side}
 use Rattle.rv_text.specs.declared.call.Side.TheVariants as side
 use Rattle.rv_text.specs.Calls.{Nature}
 use Rattle.rv_text.specs.Members.{Member, field_of, members_of}
-use Rattle.rv_text.specs.Rows.{item_row}
+use Rattle.rv_text.specs.Rows.{item_row, nature_row}
 use Rattle.rv_text.specs.Writing.{exchanger_row, queue_row, max_row, wait_unless_max_row}
 use Rattle.rv_text.proofs.Sound.{request_row}
 
@@ -52,6 +52,32 @@ request_ordered key name (side.Exchanges exchanger) waits (Some max) None = refl
 request_ordered key name _ waits (Some max) None = refl
 request_ordered key name (side.Exchanges exchanger) waits (Some max) (Some item) = refl
 request_ordered key name _ waits (Some max) (Some item) = refl
+
+-- a call alone, as it is written
+abbrev written_alone : List ℕ → Side → Option Wait → Option ℕ → Option (List ℕ) → Members
+written_alone name at waits drains gives =
+    member (codes "call") (string name)
+    (ahead (exchanger_row at)
+    (ahead (item_row gives)
+    (ahead (max_row drains)
+    (ahead (queue_row at)
+    (ahead (wait_unless_max_row drains waits) no_members)))))
+
+pub call_ordered : (name : List ℕ) (at : Side) (waits : Option Wait) (drains : Option ℕ)
+    (gives : Option (List ℕ)) → members_of (nature_row (nature_with name at waits drains gives))
+    ≡ written_alone name at waits drains gives
+call_ordered name (side.Exchanges exchanger) None None None = refl
+call_ordered name _ None None None = refl
+call_ordered name (side.Exchanges exchanger) None None (Some item) = refl
+call_ordered name _ None None (Some item) = refl
+call_ordered name (side.Exchanges exchanger) (Some waits) None None = refl
+call_ordered name _ (Some waits) None None = refl
+call_ordered name (side.Exchanges exchanger) (Some waits) None (Some item) = refl
+call_ordered name _ (Some waits) None (Some item) = refl
+call_ordered name (side.Exchanges exchanger) waits (Some max) None = refl
+call_ordered name _ waits (Some max) None = refl
+call_ordered name (side.Exchanges exchanger) waits (Some max) (Some item) = refl
+call_ordered name _ waits (Some max) (Some item) = refl
 
 -- a nature is its parts
 pub same_nature : (n : Nature) (name : List ℕ) (at : Side) (waits : Option Wait) (drains : Option ℕ)

@@ -3,12 +3,12 @@ ghost use Rattle.std.specs.Prelude.{◌≡◌, ◌<◌, [], ◌∷◌, ◌++◌,
 ghost use Rattle.std.specs.Prelude.{length, string_bytes, option_map};
 ghost use Rattle.serde_json.specs.Data.{number, unsigned};
 ghost use Rattle.rv_json.specs.Writing.{IsBlank, Writes};
-ghost use Rattle.rv_text.specs.Rows.{version_row, item_row, taker_row, message_row, answer_row};
+ghost use Rattle.rv_text.specs.Rows.{version_row, item_row, taker_row, message_row, answer_row, call_row};
 ghost use Rattle.rv_text.specs.Writing.{WritesRow, Completes, keyed_row, session_row, word_row};
 ghost use Rattle.rv_text.specs.Writing.{refused_field};
 ghost use Rattle.rv_text.specs.Writing.{exchanger_row, queue_row, max_row, wait_unless_max_row};
-ghost use Rattle.rv_text.specs.Bodies.{HasBodyLength, message_text, answer_text, refused_text};
-ghost use Rattle.rv_text.specs.Limits.{FitsMessage, FitsAnswer};
+ghost use Rattle.rv_text.specs.Bodies.{HasBodyLength, message_text, answer_text, call_text, refused_text};
+ghost use Rattle.rv_text.specs.Limits.{FitsMessage, FitsAnswer, FitsCall};
 
 use crate::answer::{Answer, Refusal, Reply};
 use crate::call::{Call, Side, Wait};
@@ -112,6 +112,18 @@ pub fn encode_request(alloc: Global, key: &Key, call: &Call) -> Result<String, N
     body.finish()
 }
 
+/// The text of a call alone, as [`encode_message`] writes a message: its members, and none of a key. Fails
+/// only if memory was refused.
+pub fn encode_call(alloc: Global, call: &Call) -> Result<String, NoMemory>
+    ensures text { IfOk result (λ s. string_bytes s ≡ call_text call.now) }
+    ensures short { FitsCall call.now → IfOk result (λ s. HasBodyLength (string_bytes s)) }
+    ensures shorter { FitsCall call.now → IfOk result (λ s. length (string_bytes s) < 65535) }
+{
+    let mut body = ObjectText::new(alloc)?;
+    put_call(&mut body, call)?;
+    body.finish()
+}
+
 fn put_message(body: &mut ObjectText, message: &Message) -> Result<(), NoMemory>
     ensures { OnOk result (Completes (message_row message.now) body.old body.new) }
 {
@@ -172,6 +184,19 @@ fn put_request(body: &mut ObjectText, key: &Key, call: &Call) -> Result<(), NoMe
     body.put_text("kind", "request")?;
     put_max(body, nature.drains)?;
     body.put_whole("number", key.number)?;
+    put_queue(body, nature.side)?;
+    put_wait(body, nature.drains, nature.wait)
+}
+
+// The members of a call, and no more.
+fn put_call(body: &mut ObjectText, call: &Call) -> Result<(), NoMemory>
+    ensures { OnOk result (Completes (call_row call.now) body.old body.new) }
+{
+    let nature = call.nature();
+    body.put_text("call", nature.word)?;
+    put_exchanger(body, nature.side)?;
+    put_item(body, nature.item)?;
+    put_max(body, nature.drains)?;
     put_queue(body, nature.side)?;
     put_wait(body, nature.drains, nature.wait)
 }

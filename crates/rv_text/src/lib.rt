@@ -25,8 +25,8 @@ pub use answer::{Answer, MAX_COUNTED, Refusal, Reply};
 pub use call::{Call, MAX_EXCHANGER, MAX_QUEUE, MAX_WAIT, Side, Wait};
 pub use decode::{decode_answer, decode_call, decode_message};
 pub use encode::{
-    BAD_TEXT_BODY, NO_MEMORY_BODY, bad_text_body, encode_answer, encode_answer_in, encode_message,
-    encode_reply_in, encode_request, no_memory_body,
+    BAD_TEXT_BODY, NO_MEMORY_BODY, bad_text_body, encode_answer, encode_answer_in, encode_call,
+    encode_message, encode_reply_in, encode_request, no_memory_body,
 };
 pub use message::{Key, MAX_IDENTIFIER, Message, fits_identifier};
 pub use number::{read_between, read_identifier, read_number, read_plain};

@@ -3,6 +3,7 @@ ghost use Rattle.std.specs.Prelude.{◌≡◌, ◌≢◌, ◌↔◌, ◌∷◌, 
 ghost use Rattle.rv_replies.specs.declared.findings.verdict.AccountVerdict.TheVariants as verdict;
 ghost use Rattle.rv_replies.specs.declared.records.Records as records;
 ghost use Rattle.rv_book.specs.lines.Lines.{lines};
+ghost use Rattle.rv_replies.specs.Standing.{HasNoted};
 ghost use Rattle.rv_verify.specs.Ends.{AreWholeLines};
 ghost use Rattle.rv_verify.specs.Noting.{HasNotedOf};
 ghost use Rattle.rv_verify.specs.Verdicts.{IsVerdictOn};
@@ -64,6 +65,23 @@ impl OngoingAudit {
     {
         OngoingAudit {
             stage: Stage::new(),
+            piece: Vec::new(alloc),
+        }
+    }
+
+    /// An audit that goes on from a machine, as one does that has read the lines of the account whose state
+    /// the machine holds, with a record that has noted it; it needn't read them. It takes no memory yet.
+    pub fn after(alloc: Global, machine: Machine) -> OngoingAudit
+        requires resumes { CanResume (state_in machine) }
+        ensures counted { entries_of result.stage.verifier ≡ (state_in machine).length }
+        ensures ready { CanGoOn result }
+        ensures counted { entries_of result.stage.verifier ≡ (state_in machine).length }
+        ensures read { (lines : List (List ℕ)) (held : HoldsAccountOf lines machine) (r : records.Records)
+            → HasNoted r held.account → HasReadPart lines result r }
+        ensures piece { result.piece.items ≡ [] }
+    {
+        OngoingAudit {
+            stage: Stage::after(machine),
             piece: Vec::new(alloc),
         }
     }

@@ -3,6 +3,7 @@ ghost use Rattle.std.specs.Prelude.{◌≡◌, ◌≢◌, ◌↔◌, ◌∷◌, 
 ghost use Rattle.std.specs.Prelude.{IfErr, IfOk, IsTrue, OnOk};
 ghost use Rattle.rv_replies.specs.declared.findings.verdict.AccountVerdict.TheVariants as verdict;
 ghost use Rattle.rv_replies.specs.declared.records.Records as records;
+ghost use Rattle.rv_replies.specs.Standing.{HasNoted};
 ghost use Rattle.rv_verify.specs.Noting.{HasNotedOf};
 ghost use Rattle.rv_verify.specs.Stages.{AreNew, CanTakeLine, HasFault, HasReadLines, HasReadNoting};
 ghost use Rattle.rv_verify.specs.Stages.{IsAtHead, StandsBehind, entries_of, epoch_of};
@@ -40,7 +41,22 @@ impl Stage {
         }
     }
 
-    // Behind the first line.
+    /// After the lines of the account whose state a machine holds, with a record that has noted it.
+    pub(crate) fn after(machine: Machine) -> Stage
+        requires { CanResume (state_in machine) }
+        ensures counted { entries_of result.verifier ≡ (state_in machine).length }
+        ensures ready { CanTakeLine result }
+        ensures counted { entries_of result.verifier ≡ (state_in machine).length }
+        ensures read { (lines : List (List ℕ)) (held : HoldsAccountOf lines machine) (r : records.Records)
+            → HasNoted r held.account → HasReadLines lines result r }
+    {
+        Stage {
+            verifier: Some(Verifier::after(machine)),
+            bad: None,
+        }
+    }
+
+    // After the first line.
     fn begun(alloc: Global, line: &[u8]) -> Result<Stage, VerifyFault>
         ensures ready { IfOk result CanTakeLine }
         ensures read { IfOk result (λ stage. (r : records.Records) → AreNew r

@@ -91,6 +91,23 @@ impl Verifier {
         })
     }
 
+    /// A verifier that goes on from a machine, as one does that has read the account whose state that holds.
+    pub(crate) fn after(machine: Machine) -> Verifier
+        requires { CanResume (state_in machine) }
+        ensures counted { result.entries ≡ (state_in machine).length }
+        ensures ready { CanReadOn result }
+        ensures counted { result.entries ≡ (state_in machine).length }
+        ensures read { (lines : List (List ℕ)) (held : HoldsAccountOf lines machine) (r : records.Records)
+            → HasNoted r held.account → HasReadNoting lines result r }
+    {
+        let entries = machine.length() as u64;
+        Verifier {
+            machine,
+            entries,
+            stop: None,
+        }
+    }
+
     /// Reads the next line. If all before it passed, follows its entry, and hands it to the records if it
     /// passed too. Fails if the line isn't read as one more entry, or memory was refused.
     pub(crate) fn line(

@@ -16,15 +16,16 @@ use Rattle.serde_json.specs.Data.{object, Members, no_members, member}
 use Rattle.serde_json.specs.View.{items_of}
 use Rattle.serde_json.specs.Written.{comma_if, compact_text, items_text, members_text}
 use Rattle.rv_text.specs.declared.answer.Answer.{Answer}
+use Rattle.rv_text.specs.declared.call.Call.{Call}
 use Rattle.rv_text.specs.declared.message.Message.{Message}
-use Rattle.rv_text.specs.Bodies.{answer_text, message_text}
-use Rattle.rv_text.specs.Limits.{FitsAnswer, FitsMessage}
+use Rattle.rv_text.specs.Bodies.{answer_text, call_text, message_text}
+use Rattle.rv_text.specs.Limits.{FitsAnswer, FitsCall, FitsMessage}
 use Rattle.rv_text.specs.Members.{field_of, members_of}
-use Rattle.rv_text.specs.Rows.{answer_row, message_row}
-use Rattle.rv_text.proofs.ByKind.{row_is_flat}
+use Rattle.rv_text.specs.Rows.{answer_row, call_row, message_row}
+use Rattle.rv_text.proofs.ByKind.{each_within, row_is_flat}
 use Rattle.rv_text.proofs.Objects.{AllMembers, AllMembers-with_fields}
 use Rattle.rv_text.proofs.Sizes.{IsFlat, IsFlatMember}
-use Rattle.rv_text.proofs.Sound.{answer_sound, answer_within, message_sound, message_within}
+use Rattle.rv_text.proofs.Sound.{answer_sound, answer_within, call_sound, message_sound, message_within}
 use Rattle.rv_account.specs.declared.entry.Entry.{Entry}
 use Rattle.rv_book.specs.Limits.{FitsEntry}
 use Rattle.rv_book.proofs.OfLines.Texts.{AllUpTo, message_fits, up_to_behind}
@@ -167,6 +168,14 @@ answer_in_one_line a fits =
     let row = answer_row a in
     let flat = AllMembers-with_fields IsFlatMember (map field_of row) (row_is_flat row (answer_sound a).plain
     (answer_within a fits)) in
+    line_cons 123 (members_text false (members_of row)) (λ same. omega arith) (members_in_line false
+    (members_of row) flat)
+
+pub call_in_one_line : (c : Call) → FitsCall c → Lacks 10 (call_text c)
+call_in_one_line c fits =
+    let row = call_row c in
+    let flat = AllMembers-with_fields IsFlatMember (map field_of row) (row_is_flat row (call_sound c).plain
+    (each_within row fits.0)) in
     line_cons 123 (members_text false (members_of row)) (λ same. omega arith) (members_in_line false
     (members_of row) flat)
 

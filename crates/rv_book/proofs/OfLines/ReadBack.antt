@@ -99,7 +99,7 @@ module _ (most : ℕ) (most_fits : most < 10 ^ 19) where
       )
 
 -- lines without LF are cut where they were joined
-cut_again : (texts : List (List ℕ)) → AllLines texts → lines (printed_lines texts) ≡ texts
+pub cut_again : (texts : List (List ℕ)) → AllLines texts → lines (printed_lines texts) ≡ texts
 cut_again [] all = refl
 cut_again (text ∷ texts) all = lines_cut text (printed_lines texts) all.0 ∙ ap (λ later. text ∷ later)
     (cut_again texts all.1)

@@ -1,5 +1,5 @@
 //! Reads the lines of an account.
-ghost use Rattle.std.specs.Prelude.{◌≡◌, ◌≤◌, ◌+◌, ◌++◌, ◌∷◌, [], ℕ, List, None, Err, IfOk, IfSome, OnOk};
+ghost use Rattle.std.specs.Prelude.{◌≡◌, ◌≤◌, ◌+◌, ◌++◌, ◌∷◌, [], ℕ, None, Err, IfOk, IfSome, OnOk};
 ghost use Rattle.rv_book.specs.lines.Lines.{lines};
 ghost use Rattle.rv_text.specs.Number.{WritesPlainly};
 ghost use Rattle.rv_book.specs.lines.Reading.{FirstBadLine, ReadsAccount, ReadsEntries, ReadsEntry};
@@ -10,7 +10,7 @@ ghost use Rattle.rv_text.specs.Limits.{FitsIdentifier};
 
 use crate::lines::entry::read_entry;
 use crate::lines::fault::{AccountFault, LineFault};
-use crate::lines::line::{cut_at, first_line};
+use crate::lines::line::{after_text, cut_at, first_line};
 use crate::{Account, Entry, MAX_ENTRIES, MAX_MOMENT};
 use rv_text::{MAX_IDENTIFIER, NoMemory, read_plain};
 use std::alloc::Global;
@@ -42,9 +42,9 @@ pub fn read_head(line: &[u8]) -> Option<(u64, u64)>
     ensures some { IfSome result (λ p. ReadsHead line.now p.0 p.1) }
     ensures none { result ≡ None → (epoch opened : ℕ) → ¬ ReadsHead line.now epoch opened }
 {
-    let fields = behind(b"epoch ", line)?;
+    let fields = after_text(b"epoch ", line)?;
     let (epoch, fields) = cut_at(b' ', fields)?;
-    let opened = behind(b"opened ", fields)?;
+    let opened = after_text(b"opened ", fields)?;
     let epoch = read_epoch(epoch)?;
     let opened = read_plain(opened, MAX_MOMENT)?;
     Some((epoch, opened))
@@ -57,14 +57,6 @@ fn read_epoch(field: &[u8]) -> Option<u64>
 {
     let n = read_plain(field, MAX_IDENTIFIER)?;
     if n == 0 { None } else { Some(n) }
-}
-
-// The bytes after a text that they begin with.
-fn behind<'a>(text: &[u8], bytes: &'a [u8]) -> Option<&'a [u8]>
-    ensures some { IfSome result (λ rest. bytes.now ≡ text.now ++ rest.now) }
-    ensures none { result ≡ None → (rest : List ℕ) → ¬ (bytes.now ≡ text.now ++ rest) }
-{
-    bytes.strip_prefix(text)
 }
 
 // The entries that the lines after the first say.

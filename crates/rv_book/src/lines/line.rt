@@ -1,5 +1,5 @@
 //! Cuts an input into lines, and a line into its fields.
-ghost use Rattle.std.specs.Prelude.{◌≡◌, ◌≢◌, ◌<◌, ◌∷◌, ◌++◌, [], length, None, IfSome};
+ghost use Rattle.std.specs.Prelude.{◌≡◌, ◌≢◌, ◌<◌, ◌∷◌, ◌++◌, [], ℕ, List, length, None, IfSome};
 ghost use Rattle.std.specs.List.{All};
 ghost use Rattle.rv_book.specs.lines.Lines.{BeginsWithLine, lines};
 ghost use Rattle.rv_book.specs.lines.Pieces.{BehindLacking};
@@ -33,6 +33,14 @@ pub fn cut_at(byte: u8, bytes: &[u8]) -> Option<(&[u8], &[u8])>
     let rest = behind_pieces(byte, bytes);
     let (_, after) = cut_near(byte, rest)?;
     Some((&bytes[..bytes.len() - after.len() - 1], after))
+}
+
+/// The bytes after a text with which they begin, or `None` if they don't begin with it.
+pub fn after_text<'a>(text: &[u8], bytes: &'a [u8]) -> Option<&'a [u8]>
+    ensures some { IfSome result (λ rest. bytes.now ≡ text.now ++ rest.now) }
+    ensures none { result ≡ None → (rest : List ℕ) → ¬ (bytes.now ≡ text.now ++ rest) }
+{
+    bytes.strip_prefix(text)
 }
 
 // The bytes after whole pieces in which no byte is `byte`. If a whole piece is left, it has such a byte.
