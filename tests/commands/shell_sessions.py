@@ -44,6 +44,8 @@ COUNTED = replies(reply="counted", items=0, consumers=0)
 RECEIVED = replies(reply="received", by_client=7, by_incarnation=8, by_number=9)
 # The lines of each of the commands that share a record.
 SHARED = 50
+# How often a number that was given up is asked for: what lists this process's files can keep its lease a moment longer.
+TRIES = 5
 # How many items a bench puts at once, with as many connections for those who take them.
 AT_ONCE = 16
 # What `rv bench` prints.
@@ -177,8 +179,11 @@ class Numbers(Case):
                     shell.ran("put", "3", "-", given=b"a\nb")
                     self.check_equal("what comes", [ended(one), ended(other)], [done(b"a\n"), done(b"b\n")])
             holders[first].close()
-            self.check_equal("all are free", named.ran("put", "3", "c"), done(b"done\n"))
-            self.check_equal("the least", requests(host)[-1].key.client, first)
+            used = list[int]()
+            while first not in used and len(used) < TRIES:
+                self.check_equal(f"all are free, {len(used)}", named.ran("put", "3", "c"), done(b"done\n"))
+                used.append(requests(host)[-1].key.client)
+            self.check("the least", first in used, used)
 
     def test_no_ranges(self) -> None:
         """A word that names no range is told; nothing is asked, nor is it where the greatest number alone is leased."""
