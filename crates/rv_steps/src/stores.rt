@@ -64,6 +64,7 @@ fn told(fault: &OpenFault<RecoveryFault>) -> &'static str {
         OpenFault::Refused(RecoveryFault::NoLines) => "no whole line",
         OpenFault::Refused(RecoveryFault::OtherEpoch(_)) => "an account of another epoch",
         OpenFault::Refused(RecoveryFault::NoAccount(_)) => "no legal account",
+        OpenFault::Refused(RecoveryFault::TooFew) => "fewer entries than a checkpoint has",
         OpenFault::Refused(RecoveryFault::NoMemory) => "no memory",
     }
 }

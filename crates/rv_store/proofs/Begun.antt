@@ -26,6 +26,17 @@ pub part_lines : (begun : Bool) (text account : List ℕ) → IsLines text → (
 part_lines true text account is later first = subst IsLines (sym (later refl)) is
 part_lines false text account is later first = rest_lines format account (subst IsLines (first refl) is)
 
+-- a first line of another format
+pub of_format : (text : List ℕ) (told : RecoveryFault) → IsFormatFault text told → text ≢ []
+    → IsFaultOfFront text told
+of_format text (fault.NoAccount found) refused some = absurd refused
+of_format text fault.NoMemory refused some = absurd refused
+of_format text fault.NoLines refused some = absurd refused
+of_format text fault.TooFew refused some = absurd refused
+of_format text (fault.OtherEpoch other) refused some = absurd refused
+of_format text fault.NoJournal refused some = refused some
+of_format text (fault.OtherVersion version) refused some = refused
+
 module _ (before text account : List ℕ) (whole : IsLines before) (audit : OngoingAudit) (r : Records) where
   -- the account that they go on with
   joined : (had : List ℕ) → IsJournalOf before had → account ≡ text
@@ -63,24 +74,16 @@ module _ (before text account : List ℕ) (whole : IsLines before) (audit : Ongo
       (account, begins has.0 (first refl), refused [] has.1)
   refuses_part begun fault.NoMemory same first refused has = tt
   refuses_part begun fault.NoLines same first refused has = absurd refused
+  refuses_part begun fault.TooFew same first refused has = absurd refused
   refuses_part begun (fault.OtherEpoch other) same first refused has = absurd refused
   refuses_part begun fault.NoJournal same first refused has = absurd refused
   refuses_part begun (fault.OtherVersion version) same first refused has = absurd refused
 
-  -- a first line of another format
   pub refuses_format : (begun : Bool) (why : RecoveryFault) → (begun ≡ false) × IsFormatFault text why
       → text ≢ [] → HasReadSo begun before audit r → IsFaultOfFront (before ++ text) why
   refuses_format true why is some has = absurd (false≢true (sym is.0))
   refuses_format false why is some has = subst (λ (l : List ℕ). IsFaultOfFront l why)
-      (sym (ap (λ (l : List ℕ). l ++ text) has.0)) (of_format why is.1 some)
-    where
-      of_format : (told : RecoveryFault) → IsFormatFault text told → text ≢ [] → IsFaultOfFront text told
-      of_format (fault.NoAccount found) refused some = absurd refused
-      of_format fault.NoMemory refused some = absurd refused
-      of_format fault.NoLines refused some = absurd refused
-      of_format (fault.OtherEpoch other) refused some = absurd refused
-      of_format fault.NoJournal refused some = refused some
-      of_format (fault.OtherVersion version) refused some = refused
+      (sym (ap (λ (l : List ℕ). l ++ text) has.0)) (of_format text why is.1 some)
 
 -- ---- no more lines come
 

@@ -6,6 +6,7 @@ use Rattle.rv_journal.specs.folders.Present.{IsPresent}
 use Rattle.rv_journal.specs.declared.folders.folder.FileName.TheVariants.{Account}
 use Rattle.rv_journal.specs.Device.{Disk}
 use Rattle.rv_journal.specs.declared.fault.OpenFault.{OpenFault}
+use Rattle.rv_machine.specs.declared.machine.Machine.{Machine}
 use Rattle.rv_store.specs.Store.{FailsPresent, IsPresentFile}
 use Rattle.rv_store.specs.declared.reader.RecoveryFault.{RecoveryFault}
 
@@ -26,9 +27,9 @@ module _ {F D : Type 0} (directory : Directory F) (disk : Disk D) (old new : F)
     number = λ given there. is.number given (same (Account epoch) ∙ there);
   }
 
-  same_fails : (epoch : ℕ) (fault : OpenFault RecoveryFault) → FailsPresent directory disk new epoch fault
-      → FailsPresent directory disk old epoch fault
-  same_fails epoch fault is = record {
+  same_fails : (epoch : ℕ) (from : Option Machine) (fault : OpenFault RecoveryFault)
+      → FailsPresent directory disk new epoch from fault → FailsPresent directory disk old epoch from fault
+  same_fails epoch from fault is = record {
     old = is.old;
     new = is.new;
     file = file_before epoch is.old is.file;
@@ -40,10 +41,10 @@ module _ {F D : Type 0} (directory : Directory F) (disk : Disk D) (old new : F)
 
 module _ {F D : Type 0} (directory : Directory F) (disk : Disk D) (old between new : F)
     (first : KeepsNames directory old between) (second : KeepsNames directory between new) where
-  pub fails_before : (epoch : ℕ) (fault : OpenFault RecoveryFault)
-      → WhereNamed directory new (FailsPresent directory disk new epoch fault)
-      → WhereNamed directory old (FailsPresent directory disk old epoch fault)
-  fails_before epoch fault fails tells =
+  pub fails_before : (epoch : ℕ) (from : Option Machine) (fault : OpenFault RecoveryFault)
+      → WhereNamed directory new (FailsPresent directory disk new epoch from fault)
+      → WhereNamed directory old (FailsPresent directory disk old epoch from fault)
+  fails_before epoch from fault fails tells =
       let told : IsTrue (directory.tells between) = subst IsTrue (sym first.tells) tells in
-      same_fails directory disk old new (λ name. second.seen told name ∙ first.seen tells name) epoch fault
-      (fails (subst IsTrue (sym second.tells) told))
+      same_fails directory disk old new (λ name. second.seen told name ∙ first.seen tells name) epoch from
+      fault (fails (subst IsTrue (sym second.tells) told))

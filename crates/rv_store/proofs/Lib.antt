@@ -8,6 +8,7 @@ mod NewAccount
 mod ReadOn
 mod Refused
 mod Reopened
+mod Resumed
 mod Told
 pub mod OfServers
 pub mod OfKeeping

@@ -1,5 +1,5 @@
 -- A machine that was opened holds the account whose journal has its first line alone.
-use Rattle.std.proofs.Common.{◌≡◌, ◌≤◌, ◌∙◌, ℕ, List, [], Some, zero, suc, ap, arith, refl, slice_get}
+use Rattle.std.proofs.Common.{◌≡◌, ◌≤◌, ◌∙◌, ℕ, List, [], None, Some, zero, suc, ap, arith, refl, slice_get}
 use Rattle.std.proofs.Common.{subst, sym, take}
 use Rattle.rv_account.specs.Account.{Account}
 use Rattle.rv_account.specs.Limits.{max_moment}
@@ -86,9 +86,9 @@ module _ (epoch opened : ℕ) (fits : FitsIdentifier epoch) (small : opened ≤ 
   pub stored_new : {D : Type 0} (disk : Disk D) (stored : StoredAccount D)
       → state_in stored.machine ≡ opening epoch (capped_moment opened)
       → journal_text disk (journal_of stored.journal) ≡ first_text epoch opened
-      → IsDurable disk (journal_of stored.journal) → IsStored disk stored
+      → IsDurable disk (journal_of stored.journal) → IsStored disk None stored
   stored_new {D = D} disk stored is text durable = record {
-    holds = subst (λ (l : List ℕ). HoldsJournal (state_in stored.machine).epoch l stored.machine) (sym text)
+    holds = λ none. subst (λ (l : List ℕ). HoldsJournal (state_in stored.machine).epoch l stored.machine) (sym text)
         (subst (λ (n : ℕ). HoldsJournal n (first_text epoch opened) stored.machine)
         (sym (ap (λ (s : State). s.epoch) (opening_is (state_in stored.machine) is)))
         (holds_new stored.machine (opening_is (state_in stored.machine) is)));

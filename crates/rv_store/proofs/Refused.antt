@@ -130,6 +130,7 @@ module _ (front more : List ℕ) (is : IsLines front) where
     on_account had.0 had.1,
     no_account_on had.0 found had.2 (on_lines had.0 had.1),
   )
+  of_more epoch fault.TooFew none = absurd none
   of_more epoch fault.NoMemory none = tt
 
 -- a reader that had read nothing refused lines, or made nothing of them

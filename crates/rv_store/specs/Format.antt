@@ -41,4 +41,5 @@ IsFormatFault text fault.NoJournal = text ≢ [] → HasNoFormat text
 IsFormatFault text fault.NoLines = ⊥
 IsFormatFault text (fault.OtherEpoch other) = ⊥
 IsFormatFault text (fault.NoAccount found) = ⊥
+IsFormatFault text fault.TooFew = ⊥
 IsFormatFault text fault.NoMemory = ⊥

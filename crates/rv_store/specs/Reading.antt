@@ -1,5 +1,5 @@
 -- What was read of the lines of a journal as those of an account.
-use Rattle.std.specs.Prelude.{◌≡◌, ◌≢◌, ◌++◌, [], ℕ, Bool, true, false, List}
+use Rattle.std.specs.Prelude.{◌≡◌, ◌≢◌, ◌++◌, [], ℕ, Bool, true, false, List, Option}
 use Rattle.rv_journal.specs.Device.{Disk, WhereTold}
 use Rattle.rv_journal.specs.Opened.{Looks, file_lines}
 use Rattle.rv_journal.specs.Text.{IsLines}
@@ -16,6 +16,7 @@ use Rattle.rv_account.specs.Account.{Account}
 use Rattle.rv_replies.specs.declared.records.Records.{Records}
 use Rattle.rv_verify.specs.declared.ongoing.OngoingAudit.{OngoingAudit}
 use Rattle.rv_store.specs.Format.{HasNoFormat, IsJournalOf, IsVersionIn}
+use Rattle.rv_store.specs.Resumed.{StandsOn}
 use Rattle.rv_store.specs.declared.reader.ReaderParts.{ReaderParts}
 use Rattle.rv_store.specs.declared.reader.RecoveryFault.{RecoveryFault}
 use Rattle.rv_store.specs.declared.reader.RecoveryFault.TheVariants as fault
@@ -51,6 +52,7 @@ IsFaultOfFront text fault.NoLines = ⊥
 IsFaultOfFront text (fault.OtherEpoch other) = ⊥
 IsFaultOfFront text (fault.NoAccount found) =
     (account : List ℕ) × IsJournalOf text account × IsNoAccount (lines account) found
+IsFaultOfFront text fault.TooFew = ⊥
 IsFaultOfFront text fault.NoMemory = Unit {0}
 
 -- The journal of an account of another epoch.
@@ -68,6 +70,7 @@ IsFaultOfText epoch text (fault.OtherVersion version) = IsFaultOfFront text (fau
 IsFaultOfText epoch text fault.NoJournal = IsFaultOfFront text fault.NoJournal
 IsFaultOfText epoch text fault.NoLines = text ≡ []
 IsFaultOfText epoch text (fault.NoAccount found) = IsFaultOfFront text (fault.NoAccount found)
+IsFaultOfText epoch text fault.TooFew = ⊥
 IsFaultOfText epoch text fault.NoMemory = Unit {0}
 
 -- A machine that goes on from the account of this epoch whose journal has this text.
@@ -77,11 +80,12 @@ pub record HoldsJournal (epoch : ℕ) (text : List ℕ) (machine : Machine) : Ty
   pub holds : HoldsAccountOf (lines account) machine
   pub epoch_is : (state_in machine).epoch ≡ epoch
 
--- A file whose lines are no account's for this reason is as it was.
-pub record IsLeftAsRefused {D : Type 0} (disk : Disk D) (epoch : ℕ) (old new : D) (why : RecoveryFault) :
-    Type 0 where
+-- A file whose lines are no account's for this reason is as it was; what a machine is given for stands in it.
+pub record IsLeftAsRefused {D : Type 0} (disk : Disk D) (epoch : ℕ) (from : Option Machine) (old new : D)
+    (why : RecoveryFault) : Type 0 where
   pub looks : Looks disk old new
-  pub fault : WhereTold disk old (IsFaultOfText epoch (file_lines disk old) why)
+  pub fault : WhereTold disk old (StandsOn from epoch (file_lines disk old)
+      → IsFaultOfText epoch (file_lines disk old) why)
 
 -- an audit read the lines of this text after those that it had read
 abbrev pub ReadsWholeOn : OngoingAudit → Records → List ℕ → OngoingAudit → Records → Type 0
@@ -97,6 +101,7 @@ RefusesWholeOn audit r text (fault.OtherVersion version) = ⊥
 RefusesWholeOn audit r text fault.NoJournal = ⊥
 RefusesWholeOn audit r text fault.NoLines = ⊥
 RefusesWholeOn audit r text (fault.OtherEpoch other) = ⊥
+RefusesWholeOn audit r text fault.TooFew = ⊥
 
 -- the same of a reader, and of whole lines
 abbrev pub ReadsTextOn : ReaderParts → List ℕ → ReaderParts → Type 0

@@ -1,5 +1,5 @@
 //! Enters a store: goes on with its present account, or begins one of a new epoch.
-ghost use Rattle.std.specs.Prelude.{◌≡◌, ◌≤◌, ℕ, Err, IfOk, None, Option, min, true};
+ghost use Rattle.std.specs.Prelude.{◌≡◌, ◌≤◌, ℕ, Err, IfOk, IfSome, None, Option, min, true};
 ghost use Rattle.rv_account.specs.Limits.{max_moment};
 ghost use Rattle.rv_journal.specs.folders.Begun.{LeavesBegun};
 ghost use Rattle.rv_journal.specs.folders.Folder.{KeepsNames, WhereNamed};
@@ -9,10 +9,9 @@ ghost use Rattle.rv_machine.specs.Machines.{state_in};
 ghost use Rattle.rv_account.specs.rules.Steps.{capped_moment};
 ghost use Rattle.rv_account.specs.state.State.{opening};
 ghost use Rattle.rv_account.specs.state.resume.Resuming.{CanResume};
-ghost use Rattle.rv_store.specs.Entered.{AreEpochs, BeginsIn, EntersBy, IsChosen, IsStored};
+ghost use Rattle.rv_store.specs.Entered.{AreEpochs, BeginsIn, EntersBy, IsChosen, IsStored, given_for};
 ghost use Rattle.rv_store.specs.Epochs.{HasNoChoice};
 ghost use Rattle.rv_store.specs.Lasting.{fault_of, journal_of};
-ghost use Rattle.rv_store.specs.Store.{FailsPresent};
 ghost use Rattle.rv_store.specs.declared.entering.EnterFault.TheVariants as OfEntry;
 ghost use Rattle.rv_store.specs.declared.store.PresentFault.TheVariants as OfStore;
 ghost use Rattle.rv_text.specs.Limits.{FitsIdentifier};
@@ -78,7 +77,7 @@ fn begin<F: Folder>(
     ensures begins { IfOk result (λ stored. WhereNamed F.directory folder.old
         (BeginsIn F.directory F.File.disk folder.old folder.new epoch opened stored)) }
     ensures stored { IfOk result (λ stored. WhereNamed F.directory folder.old
-        (IsStored F.File.disk stored)) }
+        (IsStored F.File.disk None stored)) }
     ensures resumes { IfOk result (λ stored. CanResume (state_in stored.machine)) }
     ensures works { IfOk result (λ stored. fault_of stored.journal ≡ None) }
     ensures tells { IfOk result (λ stored.
@@ -92,6 +91,8 @@ fn begin<F: Folder>(
 /// Goes on with the present account of a store, if its epoch is allowed and no new one is asked for, and else
 /// begins one at this moment, in milliseconds of the wall clock: at most 2^62.
 ///
+/// If a machine of the present epoch is given, the lines of the account whose state it holds are passed over.
+///
 /// Its epoch is as [`EpochWish::choose`] says. Nothing may be said in a new epoch before that. Whenever a
 /// crash comes, all accounts that there were are found. At `Err` they are too; [`EnterFault`] says what
 /// failed.
@@ -100,14 +101,16 @@ pub fn enter_store<F: Folder>(
     folder: &mut F,
     wish: EpochWish,
     now: u64,
+    from: Option<Machine>,
 ) -> Result<EnteredStore<F::File>, EnterFault>
     requires epochs { AreEpochs wish }
+    requires resumes { IfSome from (λ machine. CanResume (state_in machine)) }
     ensures chosen { IfOk result (λ entered.
         IsChosen F.directory folder.old wish now entered.choice) }
     ensures enters { IfOk result (λ entered. WhereNamed F.directory folder.old (EntersBy F.directory
-        F.File.disk folder.old folder.new (capped_moment now) entered.choice entered.account)) }
+        F.File.disk folder.old folder.new (capped_moment now) from entered.choice entered.account)) }
     ensures stored { IfOk result (λ entered. WhereNamed F.directory folder.old
-        (IsStored F.File.disk entered.account)) }
+        (IsStored F.File.disk (given_for entered.choice from) entered.account)) }
     ensures resumes { IfOk result (λ entered. CanResume (state_in entered.account.machine)) }
     ensures works { IfOk result (λ entered. fault_of entered.account.journal ≡ None) }
     ensures tells { IfOk result (λ entered.
@@ -123,7 +126,7 @@ pub fn enter_store<F: Folder>(
         return Err(EnterFault::NoEpoch(present));
     };
     match choice {
-        EpochChoice::GoesOn(epoch) => match open_epoch(alloc, folder, epoch) {
+        EpochChoice::GoesOn(epoch) => match open_epoch(alloc, folder, epoch, from) {
             Ok(account) => Ok(EnteredStore { account, choice }),
             Err(why) => Err(EnterFault::Present(why)),
         },

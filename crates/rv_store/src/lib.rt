@@ -12,6 +12,7 @@ pub mod keeping;
 pub mod laws;
 mod opening;
 mod reader;
+mod resuming;
 pub mod servers;
 mod store;
 mod wish;

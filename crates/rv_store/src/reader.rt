@@ -1,7 +1,12 @@
 //! Reads the lines of a journal as those of an account.
-ghost use Rattle.std.specs.Prelude.{◌≡◌, IfErr, IfOk, [], false};
+ghost use Rattle.std.specs.Prelude.{◌≡◌, ℕ, List, IfErr, IfOk, [], false};
+ghost use Rattle.rv_account.specs.state.resume.Resuming.{CanResume};
+ghost use Rattle.rv_book.specs.lines.Lines.{lines};
 ghost use Rattle.rv_journal.specs.Text.{IsLines};
+ghost use Rattle.rv_machine.specs.Machines.{state_in};
 ghost use Rattle.rv_verify.specs.Ongoing.{CanGoOn};
+ghost use Rattle.rv_verify.specs.Standing.{HoldsAccountOf};
+ghost use Rattle.rv_store.specs.Format.{IsJournalOf};
 ghost use Rattle.rv_store.specs.Reading.{LacksAccount, MakesMachine, ReadsWholeOn, RefusesWholeOn};
 
 use crate::format::account_part;
@@ -27,6 +32,8 @@ pub enum RecoveryFault {
     OtherEpoch(u64),
     /// They are no legal account, or one beyond the limits of a state: this was found of the first of them.
     NoAccount(AccountFinding),
+    /// They are fewer than those of the account whose state they should go on from.
+    TooFew,
     /// Memory was refused.
     NoMemory,
 }
@@ -77,6 +84,25 @@ impl AccountReader {
                 audit: OngoingAudit::new(alloc),
                 records: Records::new(alloc),
                 begun: false,
+            },
+        }
+    }
+
+    /// A reader that goes on from a machine: as one of an account of this epoch does that has read the journal
+    /// of the account whose state the machine holds. It takes no memory yet.
+    pub(crate) fn after(alloc: Global, epoch: u64, machine: Machine) -> AccountReader
+        requires resumes { CanResume (state_in machine) }
+        ensures read { (text account : List ℕ) → IsJournalOf text account
+            → HoldsAccountOf (lines account) machine → HasReadJournal text result }
+        ensures epoch { result.epoch ≡ epoch }
+    {
+        AccountReader {
+            parts: ReaderParts {
+                alloc,
+                epoch,
+                audit: OngoingAudit::after(alloc, machine),
+                records: Records::new(alloc),
+                begun: true,
             },
         }
     }

@@ -22,6 +22,7 @@ use crate::opening::{StoredAccount, open_account};
 use crate::reader::RecoveryFault;
 use rv_journal::folders::{BeginFault, FileName, Folder, begin_journal, present_epoch};
 use rv_journal::{DeviceFault, OpenFault};
+use rv_machine::Machine;
 use std::alloc::Global;
 
 /// Why the present account of a store wasn't opened.
@@ -83,20 +84,23 @@ pub fn begin_account<F: Folder>(
     Ok(AccountJournal::new(journal))
 }
 
-// Opens the account of the present epoch. The folder is synced first.
+// Opens the account of the present epoch, from a machine on if one of this epoch is given. The folder is
+// synced first.
 pub(crate) fn open_epoch<F: Folder>(
     alloc: Global,
     folder: &mut F,
     epoch: u64,
+    from: Option<Machine>,
 ) -> Result<StoredAccount<F::File>, PresentFault>
+    requires resumes { IfSome from (λ machine. CanResume (state_in machine)) }
     requires present { WhereNamed F.directory folder.old
         (IsPresent (F.directory.seen folder.old) (Some epoch)) }
     ensures opened { IfOk result (λ stored. WhereNamed F.directory folder.old
-        (OpensPresent F.directory F.File.disk folder.old stored)) }
+        (OpensPresent F.directory F.File.disk folder.old from stored)) }
     ensures epoch { IfOk result (λ stored. WhereNamed F.directory folder.old
         ((state_in stored.machine).epoch ≡ epoch)) }
     ensures stored { IfOk result (λ stored. WhereNamed F.directory folder.old
-        (IsStored F.File.disk stored)) }
+        (IsStored F.File.disk from stored)) }
     ensures resumes { IfOk result (λ stored. CanResume (state_in stored.machine)) }
     ensures works { IfOk result (λ stored. fault_of stored.journal ≡ None) }
     ensures tells { IfOk result (λ stored.
@@ -105,12 +109,12 @@ pub(crate) fn open_epoch<F: Folder>(
         → F.directory.may_leave folder.new names → SameNames names (F.directory.seen folder.old))) }
     ensures failed { (other : ℕ) (fault : OpenFault RecoveryFault)
         → result ≡ Err (OfStore.Account other fault) → WhereNamed F.directory folder.old
-        (FailsPresent F.directory F.File.disk folder.old other fault) }
+        (FailsPresent F.directory F.File.disk folder.old other from fault) }
     ensures cause { result ≡ Err (OfStore.Folder Failed) → F.directory.failed folder.new ≡ true }
 {
     folder.sync()?;
     let file = folder.open_file(FileName::Account(epoch))?;
-    match open_account(alloc, file, epoch) {
+    match open_account(alloc, file, epoch, from) {
         Ok(stored) => Ok(stored),
         Err((fault, _)) => Err(PresentFault::Account(epoch, fault)),
     }
@@ -126,7 +130,7 @@ pub fn open_present<F: Folder>(
     ensures none { result ≡ Ok None
         → WhereNamed F.directory folder.old (IsPresent (F.directory.seen folder.old) None) }
     ensures opened { IfOk result (λ found. IfSome found (λ stored. WhereNamed F.directory folder.old
-        (OpensPresent F.directory F.File.disk folder.old stored))) }
+        (OpensPresent F.directory F.File.disk folder.old None stored))) }
     ensures resumes { IfOk result (λ found. IfSome found (λ stored. CanResume (state_in stored.machine))) }
     ensures works { IfOk result (λ found. IfSome found (λ stored. fault_of stored.journal ≡ None)) }
     ensures tells { IfOk result (λ found. IfSome found (λ stored.
@@ -135,14 +139,14 @@ pub fn open_present<F: Folder>(
         → F.directory.may_leave folder.new names → SameNames names (F.directory.seen folder.old))) }
     ensures failed { (epoch : ℕ) (fault : OpenFault RecoveryFault)
         → result ≡ Err (OfStore.Account epoch fault) → WhereNamed F.directory folder.old
-        (FailsPresent F.directory F.File.disk folder.old epoch fault) }
+        (FailsPresent F.directory F.File.disk folder.old epoch None fault) }
     ensures cause { result ≡ Err (OfStore.Folder Failed) → F.directory.failed folder.new ≡ true }
 {
     folder.sync()?;
     let Some(epoch) = present_epoch(alloc, folder)? else {
         return Ok(None);
     };
-    match open_epoch(alloc, folder, epoch) {
+    match open_epoch(alloc, folder, epoch, None) {
         Ok(stored) => Ok(Some(stored)),
         Err(why) => Err(why),
     }

@@ -15,6 +15,7 @@ pub mod Agreeing
 pub mod Meeting
 pub mod Again
 pub mod Recorded
+pub mod Checkpointed
 -- The lemma that a proof of this crate cites.
 pub mod Told
 mod WholeEnds

@@ -16,6 +16,7 @@
 //! ```
 #![tactic(auto)]
 
+mod checkpoints;
 mod fault;
 pub mod follow;
 pub mod laws;
@@ -29,6 +30,7 @@ mod stage;
 mod torn;
 mod verifier;
 
+pub use checkpoints::read_checkpoint;
 pub use fault::VerifyFault;
 pub use naming::rule_at;
 pub use ongoing::{OngoingAudit, Pause};

@@ -73,7 +73,6 @@ impl OngoingAudit {
     /// the machine holds, with a record that has noted it; it needn't read them. It takes no memory yet.
     pub fn after(alloc: Global, machine: Machine) -> OngoingAudit
         requires resumes { CanResume (state_in machine) }
-        ensures counted { entries_of result.stage.verifier ≡ (state_in machine).length }
         ensures ready { CanGoOn result }
         ensures counted { entries_of result.stage.verifier ≡ (state_in machine).length }
         ensures read { (lines : List (List ℕ)) (held : HoldsAccountOf lines machine) (r : records.Records)

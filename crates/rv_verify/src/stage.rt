@@ -44,7 +44,6 @@ impl Stage {
     /// After the lines of the account whose state a machine holds, with a record that has noted it.
     pub(crate) fn after(machine: Machine) -> Stage
         requires { CanResume (state_in machine) }
-        ensures counted { entries_of result.verifier ≡ (state_in machine).length }
         ensures ready { CanTakeLine result }
         ensures counted { entries_of result.verifier ≡ (state_in machine).length }
         ensures read { (lines : List (List ℕ)) (held : HoldsAccountOf lines machine) (r : records.Records)

@@ -94,7 +94,6 @@ impl Verifier {
     /// A verifier that goes on from a machine, as one does that has read the account whose state that holds.
     pub(crate) fn after(machine: Machine) -> Verifier
         requires { CanResume (state_in machine) }
-        ensures counted { result.entries ≡ (state_in machine).length }
         ensures ready { CanReadOn result }
         ensures counted { result.entries ≡ (state_in machine).length }
         ensures read { (lines : List (List ℕ)) (held : HoldsAccountOf lines machine) (r : records.Records)

@@ -218,6 +218,9 @@ fn account_told(
             let why = format!(in rt.alloc(); "the account of epoch {epoch}");
             unusable(rt.alloc(), name, why)
         }
+        OpenFault::Refused(RecoveryFault::TooFew) => {
+            unusable_as(rt, name, "fewer entries than the checkpoint has")
+        }
         OpenFault::Refused(RecoveryFault::NoAccount(_)) => {
             unusable_as(rt, name, "no legal account: rv verify tells where")
         }

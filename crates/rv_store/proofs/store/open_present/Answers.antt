@@ -1,5 +1,5 @@
 -- The folder's names were kept until the account was opened.
-use Rattle.std.proofs.Common.{Err, Ok, Result, ap}
+use Rattle.std.proofs.Common.{Err, None, Ok, Result, ap}
 use Rattle.rv_journal.specs.declared.device.DeviceFault.TheVariants.{Failed}
 use Rattle.rv_store.specs.declared.store.PresentFault.{PresentFault}
 use Rattle.rv_store.specs.declared.store.PresentFault.TheVariants as OfStore
@@ -13,4 +13,4 @@ told_by (Ok value) = OfStore.Folder Failed
 pub returns-in-Err-clause-failed : goal.returns-in-Err-clause-failed
 returns-in-Err-clause-failed g c = λ epoch fault is. fails_before g.F.Folder.directory g.F.File.Device.disk
     c.args.folder.now c.sync.new.self c.present_epoch.new.folder c.sync.ensures.kept
-    c.present_epoch.ensures.kept epoch fault (c.in-Err.ensures.failed epoch fault (ap Err (ap told_by is)))
+    c.present_epoch.ensures.kept epoch None fault (c.in-Err.ensures.failed epoch fault (ap Err (ap told_by is)))
