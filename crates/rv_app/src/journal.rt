@@ -77,6 +77,11 @@ impl JournalText {
             at: FORMAT_BYTES as u64,
         }
     }
+
+    /// How many bytes its file has.
+    pub(crate) fn size(&self) -> u64 {
+        size_of(&self.file)
+    }
 }
 
 // How many bytes come before the first zero.
@@ -124,6 +129,6 @@ impl Again for JournalFile<'_> {
     }
 
     fn size(&self, input: &JournalText) -> u64 {
-        size_of(&input.file)
+        input.size()
     }
 }

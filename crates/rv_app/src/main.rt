@@ -12,6 +12,7 @@ ghost use Rattle.rv_text.specs.Limits.{FitsIdentifier};
 mod account;
 mod again;
 mod audit;
+mod compact;
 mod ends;
 mod fault;
 mod growing;
@@ -24,6 +25,7 @@ mod watch;
 
 pub use account::write_account;
 pub use audit::{AuditSaid, audit_run};
+use compact::run_compact;
 use ends::run_end;
 use fault::ProgramFault;
 use rv_commands::{connected, run_shell};
@@ -37,7 +39,7 @@ use rv_server::ServeFault;
 use rv_text::Version;
 pub use rv_words::command::{Command, CommandFault, read_command};
 use rv_words::{HelpAnswer, asks_version, read_help, version_text, words_of_host};
-pub use rv_words::{read_record, read_verify};
+pub use rv_words::{read_compact, read_record, read_verify};
 use server::{ServerPlan, serve_epoch};
 use std::alloc::Global;
 use std::fmt::Display;
@@ -95,6 +97,9 @@ fn run_words<T: Threads + Wait + AllocGlobal + time::Clock + Sync>(
     }
     if let Some(verify) = read_verify(rt.alloc(), words)? {
         return run_verify(rt, threads, &verify);
+    }
+    if let Some(folder) = read_compact(rt.alloc(), words)? {
+        return Ok(run_compact(rt, folder)?);
     }
     run_command(rt, threads, words)
 }

@@ -474,7 +474,7 @@ fn not_verified<E: Display>(rt: &HostRuntime, path: &str, why: &E) -> ExitCode {
     ExitCode::from(UNREAD)
 }
 
-// Says which file isn't read, and why.
-fn unread<E: Display>(rt: &HostRuntime, what: &str, path: &str, why: &E) {
+/// Says which file isn't read, and why.
+pub(crate) fn unread<E: Display>(rt: &HostRuntime, what: &str, path: &str, why: &E) {
     let _ = eprintln!(rt; "{what} {path}: {why}");
 }

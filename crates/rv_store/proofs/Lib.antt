@@ -5,6 +5,7 @@ mod Fronts
 mod KeptNames
 mod Nearest
 mod NewAccount
+mod Printed
 mod ReadOn
 mod Refused
 mod Reopened

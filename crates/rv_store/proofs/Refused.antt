@@ -16,6 +16,7 @@ use Rattle.rv_replies.specs.declared.findings.verdict.AccountFinding.{AccountFin
 use Rattle.rv_store.specs.Reading.{HasReadJournal, HoldsJournal, IsFaultOfFront, IsFaultOfText, IsNoAccount}
 use Rattle.rv_store.specs.Reading.{LacksAccount, MakesMachine, ReadsTextOn, RefusesTextOn}
 use Rattle.rv_store.specs.WholeLines.{lines_on, rest_lines, whole}
+use Rattle.rv_machine.specs.Machines.{state_in}
 use Rattle.rv_machine.specs.declared.machine.Machine.{Machine}
 use Rattle.rv_store.specs.declared.reader.ReaderParts.{ReaderParts}
 use Rattle.rv_store.specs.declared.reader.RecoveryFault.{RecoveryFault}
@@ -149,4 +150,8 @@ pub made_lines : (text : List ℕ) (epoch : ℕ) (reader : ReaderParts) (machine
     → HasReadJournal [] reader → reader.epoch ≡ epoch
     → MakesOf ReadsTextOn MakesMachine reader text machine → IsLines text → HoldsJournal epoch text machine
 made_lines text epoch reader machine none same all is = subst (λ (n : ℕ). HoldsJournal n text machine)
-    (all.taken.0 ∙ same) (all.made.1 text is (all.taken.1 [] refl none))
+    (all.taken.0 ∙ same) (all.made.2 text is (all.taken.1 [] refl none))
+
+pub made_epoch : (text : List ℕ) (epoch : ℕ) (reader : ReaderParts) (machine : Machine) → reader.epoch ≡ epoch
+    → MakesOf ReadsTextOn MakesMachine reader text machine → (state_in machine).epoch ≡ epoch
+made_epoch text epoch reader machine same all = all.made.1 ∙ all.taken.0 ∙ same

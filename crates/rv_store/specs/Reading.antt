@@ -114,8 +114,8 @@ RefusesTextOn old text why = (before : List ℕ) → IsLines before → HasReadJ
 
 -- what becomes of a journal that has no more lines than were read
 abbrev pub MakesMachine : ReaderParts → Machine → Type 0
-MakesMachine reader machine = CanResume (state_in machine) × ((text : List ℕ) → IsLines text
-    → HasReadJournal text reader → HoldsJournal reader.epoch text machine)
+MakesMachine reader machine = CanResume (state_in machine) × ((state_in machine).epoch ≡ reader.epoch)
+    × ((text : List ℕ) → IsLines text → HasReadJournal text reader → HoldsJournal reader.epoch text machine)
 
 abbrev pub LacksAccount : ReaderParts → RecoveryFault → Type 0
 LacksAccount reader why = (text : List ℕ) → IsLines text → HasReadJournal text reader

@@ -99,6 +99,8 @@ pub fn open_account<D: Device>(
     requires resumes { IfSome from (λ machine. CanResume (state_in machine)) }
     ensures holds { IfOk result (λ stored. WhereTold D.disk device (StandsOn from epoch
         (file_lines D.disk device) → HoldsJournal epoch (file_lines D.disk device) stored.machine)) }
+    ensures epoch { IfOk result (λ stored. WhereTold D.disk device
+        ((state_in stored.machine).epoch ≡ epoch)) }
     ensures resumes { IfOk result (λ stored. CanResume (state_in stored.machine)) }
     ensures text { IfOk result (λ stored. WhereTold D.disk device
         (journal_text D.disk (journal_of stored.journal) ≡ file_lines D.disk device)) }

@@ -6,16 +6,18 @@ use Rattle.clap.specs.declared.error.kind.ErrorKind.TheVariants.{DisplayHelp}
 use Rattle.rv_words.specs.options.Words.{host_app}
 use Rattle.rv_words.specs.Listed.{with_apps}
 use Rattle.rv_words.specs.Program.{command_app, rv_app}
+use Rattle.rv_words.specs.Compacting.{compact_app}
 use Rattle.rv_words.specs.Verifying.{verify_app}
 use Rattle.rv_words.specs.shell.Words.{shell_app}
 use Rattle.rv_words.specs.declared.helping.HelpAnswer.{HelpAnswer}
 use Rattle.rv_words.specs.declared.shell.word.ShellWord.TheVariants.{Bench, Count, Drain, Peek, Put}
 use Rattle.rv_words.specs.declared.shell.word.ShellWord.TheVariants.{Swap, Take, Transfer}
 
--- of the commands that read their words themselves: `record --to FILE`, as help shows it, `version` and
--- `verify`
+-- of the commands that read their words themselves: `record --to FILE`, as help shows it, `version`,
+-- `verify` and `compact`
 abbrev pub own_apps : List App
-own_apps = command_app (codes "record") (codes "to" ∷ []) ∷ command_app (codes "version") [] ∷ verify_app ∷ []
+own_apps = command_app (codes "record") (codes "to" ∷ []) ∷ command_app (codes "version") [] ∷ verify_app
+    ∷ compact_app ∷ []
 
 -- the commands of a shell
 abbrev pub shell_apps : List App

@@ -6,6 +6,7 @@ pub mod Listed
 pub mod Program
 pub mod Recorded
 pub mod Verifying
+pub mod Compacting
 pub mod Versions
 pub mod shell
 pub mod options

@@ -7,6 +7,7 @@ ghost use Rattle.rv_words.specs.Helping.{IsHelpFor, help_app, help_status};
 ghost use Rattle.rv_words.specs.Listed.{with_apps};
 ghost use Rattle.rv_words.specs.shell.Words.{shell_app};
 
+use crate::compacting::COMPACT;
 use crate::fault::CommandFault;
 use crate::listed::{ListedCommand, ListedOption, NEEDED, listed_command, with_commands};
 use crate::options::host_words;
@@ -133,6 +134,7 @@ const OTHERS: &[ListedCommand] = &[
         options: &[],
     },
     VERIFY,
+    COMPACT,
 ];
 
 // The commands of a shell.

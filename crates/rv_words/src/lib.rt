@@ -10,6 +10,7 @@
 #![tactic(auto)]
 
 pub mod command;
+mod compacting;
 mod duration;
 mod fault;
 mod helping;
@@ -23,6 +24,7 @@ mod verifying;
 mod versions;
 mod words;
 
+pub use compacting::read_compact;
 pub use duration::read_duration;
 pub use fault::CommandFault;
 pub use helping::{HelpAnswer, read_help};

@@ -2,7 +2,7 @@
 ghost use Rattle.std.specs.Prelude.{◌≡◌, ◌↔◌, IfOk, IfSome, IsTrue, Some, option_map, string_bytes};
 ghost use Rattle.rv_store.specs.keeping.Boots.{MayGoOnIn, boot_line, known_boots};
 
-use crate::keeping::fault::{KeepFault, named};
+use crate::keeping::fault::{KeepFault, refused};
 use std::alloc::{AllocError, Global};
 use std::fs::{self, File};
 use std::io;
@@ -81,7 +81,7 @@ impl Boots {
         };
         match changed.and_then(|()| File::open(rt, folder)?.sync_all()) {
             Ok(()) => Ok(()),
-            Err(why) => Err(refused(rt, &name, why)),
+            Err(why) => Err(refused(rt.alloc(), &name, why)),
         }
     }
 
@@ -102,14 +102,6 @@ fn note_path(alloc: Global, folder: &str) -> Result<String, AllocError> {
     format!(in alloc; "{folder}/boot")
 }
 
-// What the system refused of the file of this name, or that memory was refused.
-fn refused(rt: &HostRuntime, name: &str, why: io::Error) -> KeepFault {
-    match why.kind() {
-        ErrorKind::OutOfMemory => KeepFault::NoMemory,
-        _ => named(rt.alloc(), name, why),
-    }
-}
-
 // The front of a text file.
 fn front_of(rt: &HostRuntime, name: &str) -> io::Result<String> {
     io::read_to_string(rt.alloc(), File::open(rt, name)?.take(LONGEST))
@@ -121,7 +113,7 @@ fn noted(rt: &HostRuntime, folder: &str) -> Result<Option<String>, KeepFault> {
     match front_of(rt, &name) {
         Ok(text) => Ok(Some(text)),
         Err(why) if why.kind() == ErrorKind::NotFound => Ok(None),
-        Err(why) => Err(refused(rt, &name, why)),
+        Err(why) => Err(refused(rt.alloc(), &name, why)),
     }
 }
 

@@ -4,6 +4,7 @@ ghost use Rattle.rv_store.specs.declared.keeping.fault.KeepFault.TheVariants.{No
 
 use std::alloc::{AllocError, Global};
 use std::io;
+use std::io::ErrorKind;
 
 /// Why an account isn't kept, or not gone on with.
 #[derive(Drop)]
@@ -29,6 +30,14 @@ pub(crate) fn named(alloc: Global, name: &str, error: io::Error) -> KeepFault {
     match String::from_str(alloc, name) {
         Ok(name) => KeepFault::Named(name, error),
         Err(_) => KeepFault::NoMemory,
+    }
+}
+
+// The same, or that memory was refused.
+pub(crate) fn refused(alloc: Global, name: &str, why: io::Error) -> KeepFault {
+    match why.kind() {
+        ErrorKind::OutOfMemory => KeepFault::NoMemory,
+        _ => named(alloc, name, why),
     }
 }
 

@@ -1,5 +1,5 @@
 //! Enters the store of a folder: the account with which a server starts.
-ghost use Rattle.std.specs.Prelude.{◌≡◌, ℕ, IfOk, None, Option, false, if◌then◌else◌, true};
+ghost use Rattle.std.specs.Prelude.{◌≡◌, ℕ, IfOk, IfSome, None, Option, false, if◌then◌else◌, true};
 ghost use Rattle.rv_machine.specs.Machines.{state_in};
 ghost use Rattle.rv_store.specs.keeping.Kept.{journal_in};
 ghost use Rattle.rv_account.specs.state.resume.Resuming.{CanResume};
@@ -10,6 +10,7 @@ ghost use Rattle.rv_journal.specs.System.{does_sync};
 ghost use Rattle.rv_store.specs.keeping.Boots.{IsChosenIn};
 
 use crate::keeping::boot::Boots;
+use crate::keeping::checkpoint::last_checkpoint;
 use crate::keeping::fault::{KeepFault, named, unusable};
 use crate::keeping::rules::StoreRules;
 use crate::keeping::store_account::{StoreAccount, again};
@@ -107,14 +108,16 @@ fn entered(
     path: &str,
     wish: EpochWish,
     wall: u64,
+    from: Option<Machine>,
 ) -> Result<EnteredStore<SystemFile>, KeepFault>
-    requires { AreEpochs wish }
+    requires epochs { AreEpochs wish }
+    requires resumes { IfSome from (λ machine. CanResume (state_in machine)) }
     ensures resumes { IfOk result (λ entered. CanResume (state_in entered.account.machine)) }
     ensures chosen { IfOk result (λ entered.
         (present : Option ℕ) × IsChoice wish present wall entered.choice) }
     ensures works { IfOk result (λ entered. fault_of entered.account.journal ≡ None) }
 {
-    match enter_store(rt.alloc(), folder, wish, wall) {
+    match enter_store(rt.alloc(), folder, wish, wall, from) {
         Ok(entered) => Ok(entered),
         Err(why) => Err(told(rt, folder, path, why)),
     }
@@ -122,7 +125,7 @@ fn entered(
 
 /// Enters the store of a folder, which is made if its parent is there, and locks it. By the wall clock's
 /// milliseconds it goes on with the present account, if the rules allow that and all that was written of it
-/// is there, or begins a new one. A store that isn't synced has a note of the machine's boot, and its account
+/// is there, or begins a new one. If the store has a checkpoint of that account, it follows what comes after. A store that isn't synced has a note of the machine's boot, and its account
 /// goes on in no other one.
 ///
 /// At `Err` no file of an account has other lines than before.
@@ -143,7 +146,8 @@ pub fn enter<'a>(
     let boots = Boots::read(rt, path, rules.boot)?;
     let lets_go_on = boots.lets_go_on(rules.syncs);
     let wish = wish_where(rules.epochs, lets_go_on);
-    let EnteredStore { account, choice } = entered(rt, &mut folder, path, wish, wall)?;
+    let from = last_checkpoint(rt, path)?;
+    let EnteredStore { account, choice } = entered(rt, &mut folder, path, wish, wall, from)?;
     boots.note(rt, path, rules.syncs)?;
     let StoredAccount { journal, machine } = account;
     let journal = kept_so(journal, rules.syncs);

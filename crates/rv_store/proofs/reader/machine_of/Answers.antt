@@ -8,6 +8,7 @@ pub returns-in-Ok-clause-made : goal.returns-in-Ok-clause-made
 returns-in-Ok-clause-made c =
     let parts = c.args.parts in (
       c.in-Ok.ensures.ready c.requires,
+      sym c.epoch.ensures ∙ c.if-epoch-parts.true,
       λ text is has. makes text parts.epoch parts.audit parts.records parts.begun c.in-Ok.machine
           c.if-not-parts.false has (λ read whole. c.in-Ok.ensures.holds read parts.records whole.part.read)
           (sym c.epoch.ensures ∙ c.if-epoch-parts.true),

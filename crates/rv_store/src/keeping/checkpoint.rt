@@ -1,0 +1,273 @@
+//! The checkpoints of a store: files of a state each, from which a start goes on.
+ghost use Rattle.std.specs.Prelude.{◌≡◌, ◌++◌, ◌∷◌, ◌↔◌, ◌<◌, ◌⊎◌, IfOk, IfSome, IsTrue, OnOk, string_bytes};
+ghost use Rattle.std.specs.Prelude.{[]};
+ghost use Rattle.rv_account.specs.state.resume.Resuming.{CanResume};
+ghost use Rattle.rv_frame.specs.Sink.{SinkTakes};
+ghost use Rattle.rv_machine.specs.Machines.{state_in};
+ghost use Rattle.rv_store.specs.keeping.Checkpoints.{TakesState};
+
+use crate::keeping::fault::{KeepFault, refused, unusable};
+use os::errno;
+use rv_account::state::resume::Snapshot;
+use rv_checkpoint::CheckpointWriter;
+use rv_frame::{Sink, WriteFault};
+use rv_machine::{Machine, NoMachine};
+use rv_text::NoMemory;
+use rv_verify::{VerifyFault, read_checkpoint};
+use std::alloc::{AllocError, Global};
+use std::fs::{self, File, OpenOptions, TryLockError};
+use std::io::{self, BufReader, BufWriter, ErrorKind, Write};
+
+/// Why the lines of a state were not all written.
+#[derive(Clone, Copy)]
+pub enum StateFault {
+    /// A write failed.
+    Write,
+    /// Memory was refused.
+    NoMemory,
+}
+
+impl From<WriteFault> for StateFault {
+    fn from(_fault: WriteFault) -> StateFault {
+        StateFault::Write
+    }
+}
+
+impl From<NoMemory> for StateFault {
+    fn from(_fault: NoMemory) -> StateFault {
+        StateFault::NoMemory
+    }
+}
+
+/// A checkpoint's place in the account of a store: the epoch, and how many entries come before it.
+#[derive(Clone, Copy, PartialEq, Eq)]
+pub(crate) struct CheckpointName {
+    pub(crate) epoch: u64,
+    pub(crate) entries: u64,
+}
+
+impl CheckpointName {
+    // The name of its file.
+    fn file(self, alloc: Global) -> Result<String, AllocError> {
+        let CheckpointName { epoch, entries } = self;
+        format!(in alloc; "epoch-{epoch}-{entries}.state")
+    }
+
+    // The checkpoint that a file of this name is, if it is one.
+    fn of(alloc: Global, name: &str) -> Result<Option<CheckpointName>, AllocError> {
+        let numbers = name
+            .strip_prefix("epoch-")
+            .and_then(|rest| rest.strip_suffix(".state"))
+            .and_then(|numbers| numbers.split_once('-'));
+        let Some((epoch, entries)) = numbers else {
+            return Ok(None);
+        };
+        let (Ok(epoch), Ok(entries)) = (epoch.parse::<u64>(), entries.parse::<u64>()) else {
+            return Ok(None);
+        };
+        let found = CheckpointName { epoch, entries };
+        let given = found.file(alloc)?;
+        if given.as_str() == name {
+            Ok(Some(found))
+        } else {
+            Ok(None)
+        }
+    }
+
+    // Whether it is of a later epoch than another, or later in the same.
+    fn is_after(self, other: CheckpointName) -> bool
+        ensures { IsTrue result ↔ ((other.epoch < self.epoch)
+            ⊎ ((other.epoch ≡ self.epoch) × (other.entries < self.entries))) }
+    {
+        other.epoch < self.epoch || (other.epoch == self.epoch && other.entries < self.entries)
+    }
+}
+
+// The checkpoints in a folder.
+fn listed(rt: &HostRuntime, folder: &str) -> io::Result<Vec<CheckpointName>> {
+    let mut found = Vec::new(rt.alloc());
+    for entry in fs::read_dir(rt, folder)? {
+        if let Some(name) = CheckpointName::of(rt.alloc(), entry?.file_name())? {
+            found.push(name)?;
+        }
+    }
+    Ok(found)
+}
+
+// The last of these, if there is one.
+fn last_of(names: &[CheckpointName]) -> Option<CheckpointName> {
+    names
+        .iter()
+        .copied()
+        .reduce(|one, other| if one.is_after(other) { one } else { other })
+}
+
+// Where the file of this name lies in a folder.
+fn path_in(alloc: Global, folder: &str, name: CheckpointName) -> Result<String, AllocError> {
+    let file = name.file(alloc)?;
+    format!(in alloc; "{folder}/{file}")
+}
+
+// The state that a file says, if it says one.
+fn state_in_file(rt: &HostRuntime, path: &str) -> io::Result<Option<Snapshot>> {
+    let mut reader = BufReader::new(rt.alloc(), File::open(rt, path)?)?;
+    match read_checkpoint(rt.alloc(), &mut reader) {
+        Ok(found) => Ok(found),
+        Err(VerifyFault::NoMemory) => Err(io::Error::from(ErrorKind::OutOfMemory)),
+        Err(VerifyFault::ReadFault) => Err(io::Error::from_raw_os_error(errno())),
+    }
+}
+
+// The machine of a state, if it is the state of this epoch after so many entries.
+fn machine_of(alloc: Global, state: Snapshot, name: CheckpointName) -> Result<Option<Machine>, NoMemory>
+    ensures { IfOk result (λ found. IfSome found (λ machine. CanResume (state_in machine)
+        × ((state_in machine).epoch ≡ name.epoch) × ((state_in machine).length ≡ name.entries))) }
+{
+    match Machine::resume(alloc, state) {
+        Ok(machine) if machine.epoch() == name.epoch && machine.length() as u64 == name.entries => {
+            Ok(Some(machine))
+        }
+        Ok(_) | Err(NoMachine::Unfit) => Ok(None),
+        Err(NoMachine::NoMemory) => Err(AllocError),
+    }
+}
+
+// The machine of the checkpoint of this name.
+fn read_named(rt: &HostRuntime, path: &str, name: CheckpointName) -> io::Result<Option<Machine>>
+    ensures { IfOk result (λ found. IfSome found (λ machine. CanResume (state_in machine))) }
+{
+    match state_in_file(rt, path)? {
+        Some(state) => Ok(machine_of(rt.alloc(), state, name)?),
+        None => Ok(None),
+    }
+}
+
+/// The machine of the last checkpoint in a store's folder, if it has one.
+///
+/// One that can't be read isn't passed over, since an earlier one may lack: it is told as unusable by its name.
+pub fn last_checkpoint(rt: &HostRuntime, folder: &str) -> Result<Option<Machine>, KeepFault>
+    ensures { IfOk result (λ found. IfSome found (λ machine. CanResume (state_in machine))) }
+{
+    let names = match listed(rt, folder) {
+        Ok(names) => names,
+        Err(why) => return Err(refused(rt.alloc(), folder, why)),
+    };
+    let Some(name) = last_of(&names) else {
+        return Ok(None);
+    };
+    let path = path_in(rt.alloc(), folder, name)?;
+    match read_named(rt, &path, name) {
+        Ok(Some(machine)) => Ok(Some(machine)),
+        Ok(None) => {
+            let why = String::from_str(rt.alloc(), "no checkpoint");
+            Err(unusable(rt.alloc(), &path, why))
+        }
+        Err(why) => Err(refused(rt.alloc(), &path, why)),
+    }
+}
+
+// Writes a line, and LF after it.
+fn put_line<W: Write>(sink: &mut Sink<W>, line: String) -> Result<(), WriteFault>
+    ensures { OnOk result (SinkTakes W.contents sink.old sink.new (string_bytes line ++ 10 ∷ [])) }
+{
+    sink.write_all(line.as_bytes())?;
+    sink.write_all(b"\n")
+}
+
+/// Writes the lines of a state, each with LF after it, as a checkpoint has them. Fails if a write failed or
+/// memory was refused, after some of them.
+pub fn write_state<W: Write>(
+    alloc: Global,
+    state: Snapshot,
+    sink: &mut Sink<W>,
+) -> Result<(), StateFault>
+    requires { CanResume state }
+    ensures { OnOk result (TakesState W.contents sink.old sink.new state) }
+{
+    let mut writer = CheckpointWriter::new(state);
+    for _turn in 0..u64::MAX {
+        match writer.next_line(alloc)? {
+            Some(line) => put_line(sink, line)?,
+            None => return Ok(()),
+        }
+    }
+    Err(StateFault::NoMemory)
+}
+
+// Writes the state of a machine into a file that is empty, and stores it.
+fn store_state(rt: &HostRuntime, file: &File, machine: &Machine) -> io::Result<()>
+    requires { CanResume (state_in machine.now) }
+{
+    let Ok(state) = machine.state() else {
+        return Err(io::Error::from(ErrorKind::OutOfMemory));
+    };
+    let mut sink = Sink::new(BufWriter::new(rt.alloc(), file)?);
+    let written = write_state(rt.alloc(), state, &mut sink);
+    match written {
+        Ok(()) if sink.flush().is_ok() => file.sync_all(),
+        Err(StateFault::NoMemory) => Err(io::Error::from(ErrorKind::OutOfMemory)),
+        _ => Err(io::Error::from_raw_os_error(errno())),
+    }
+}
+
+// Makes the file of a machine's checkpoint: under another name, until it is stored.
+fn make(rt: &HostRuntime, folder: &str, file: &File, machine: &Machine, path: &str) -> io::Result<()>
+    requires { CanResume (state_in machine.now) }
+{
+    file.set_len(0)?;
+    store_state(rt, file, machine)?;
+    let unready = unready_path(rt.alloc(), folder)?;
+    fs::rename(rt, unready.as_str(), path)?;
+    File::open(rt, folder)?.sync_all()
+}
+
+// Where a checkpoint lies that is being made.
+fn unready_path(alloc: Global, folder: &str) -> Result<String, AllocError> {
+    format!(in alloc; "{folder}/unready.state")
+}
+
+// Removes the checkpoints before this one.
+fn remove_before(rt: &HostRuntime, folder: &str, last: CheckpointName) -> io::Result<()> {
+    for name in listed(rt, folder)?.iter() {
+        if last.is_after(*name) {
+            let path = path_in(rt.alloc(), folder, *name)?;
+            fs::remove_file(rt, path.as_str())?;
+        }
+    }
+    Ok(())
+}
+
+/// Makes a checkpoint of a machine's state in a store's folder, and removes those before it once it is
+/// stored. A crash leaves them, or it. One `rv compact` at a time can do so.
+pub fn make_checkpoint(rt: &HostRuntime, folder: &str, machine: &Machine) -> Result<(), KeepFault>
+    requires { CanResume (state_in machine.now) }
+{
+    let unready = unready_path(rt.alloc(), folder)?;
+    let opened = OpenOptions::new().write(true).create(true).open(rt, unready.as_str());
+    let file = match opened {
+        Ok(file) => file,
+        Err(why) => return Err(refused(rt.alloc(), &unready, why)),
+    };
+    if let Err(fault) = file.try_lock() {
+        return Err(not_locked(rt.alloc(), &unready, fault));
+    }
+    let name = CheckpointName {
+        epoch: machine.epoch(),
+        entries: machine.length() as u64,
+    };
+    let path = path_in(rt.alloc(), folder, name)?;
+    match make(rt, folder, &file, machine, &path).and_then(|()| remove_before(rt, folder, name)) {
+        Ok(()) => Ok(()),
+        Err(why) => Err(refused(rt.alloc(), &path, why)),
+    }
+}
+
+// Why the file of a checkpoint that is being made isn't this program's.
+fn not_locked(alloc: Global, path: &str, fault: TryLockError) -> KeepFault {
+    match fault {
+        TryLockError::WouldBlock => {
+            unusable(alloc, path, String::from_str(alloc, "another rv compact writes it"))
+        }
+        TryLockError::Error(why) => refused(alloc, path, why),
+    }
+}
