@@ -2,5 +2,6 @@
 pub mod Writing
 pub mod Telling
 pub mod Kept
+pub mod Compacted
 pub mod Following
 pub mod Reporting

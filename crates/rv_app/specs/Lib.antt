@@ -3,5 +3,6 @@ pub mod Accounts
 pub mod Audits
 pub mod Verified
 -- What private clauses cite.
+pub mod Compacting
 pub mod Progress
 pub mod Verifying

@@ -102,7 +102,10 @@ fn machine_watched<F: Read + Drop>(
     let mut audit = OngoingAudit::new(alloc);
     let mut records = Records::new(alloc);
     match audit.read_on(alloc, &mut reader, &mut records) {
-        Ok(_) => Ok(audit.into_machine().ok()),
+        Ok(_) => match audit.into_machine() {
+            Ok(machine) => Ok(Some(machine)),
+            Err(_) => Ok(None),
+        },
         Err(fault) => Err(run_fault(fault)),
     }
 }

@@ -1,5 +1,5 @@
 -- What isn't opened after calls that keep the names of a folder, isn't opened in the folder before them.
-use Rattle.std.proofs.Common.{◌≡◌, ◌∙◌, ℕ, IsTrue, Option, Some, subst, sym}
+use Rattle.std.proofs.Common.{◌∙◌, ℕ, IsTrue, Option, Some, subst, sym}
 use Rattle.std.specs.Prelude.{is_some}
 use Rattle.rv_journal.specs.folders.Folder.{Directory, GivenFile, KeepsNames, SameNames, WhereNamed}
 use Rattle.rv_journal.specs.folders.Present.{IsPresent}

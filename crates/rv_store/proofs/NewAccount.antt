@@ -6,8 +6,8 @@ use Rattle.rv_account.specs.Limits.{max_moment}
 use Rattle.rv_account.specs.declared.entry.Entry.{Entry}
 use Rattle.rv_journal.specs.Device.{Disk}
 use Rattle.rv_journal.specs.Journal.{IsDurable, journal_text}
-use Rattle.rv_book.specs.lines.Lines.{lines, printed_lines}
-use Rattle.rv_book.specs.lines.Written.{FitsLinesUnder, account_lines, head_text}
+use Rattle.rv_book.specs.lines.Lines.{printed_lines}
+use Rattle.rv_book.specs.lines.Written.{FitsLinesUnder, account_lines}
 use Rattle.rv_book.proofs.OfLines.ReadBack.{lines_again}
 use Rattle.rv_machine.specs.Machines.{state_in}
 use Rattle.rv_machine.specs.declared.machine.Machine.{Machine}
@@ -16,11 +16,10 @@ use Rattle.rv_account.specs.rules.Steps.{capped_moment}
 use Rattle.rv_account.proofs.OfRules.Words.{none-some}
 use Rattle.rv_account.specs.state.After.{state_of}
 use Rattle.rv_account.specs.state.State.{State, opening}
-use Rattle.rv_account.specs.state.resume.Laws.{HadRoom}
 use Rattle.rv_account.specs.state.resume.Resuming.{CanResume, StaysInRoom}
 use Rattle.rv_account.proofs.OfState.Resumed.ResumeLaws.{openings_resume}
 use Rattle.rv_text.specs.Limits.{FitsIdentifier}
-use Rattle.rv_verify.specs.Verdicts.{ReadsLong, long_limits}
+use Rattle.rv_verify.specs.Verdicts.{long_limits}
 use Rattle.rv_store.specs.Entered.{IsStored}
 use Rattle.rv_store.specs.Format.{first_text}
 use Rattle.rv_store.specs.Lasting.{journal_of}
@@ -88,7 +87,8 @@ module _ (epoch opened : ℕ) (fits : FitsIdentifier epoch) (small : opened ≤ 
       → journal_text disk (journal_of stored.journal) ≡ first_text epoch opened
       → IsDurable disk (journal_of stored.journal) → IsStored disk None stored
   stored_new {D = D} disk stored is text durable = record {
-    holds = λ none. subst (λ (l : List ℕ). HoldsJournal (state_in stored.machine).epoch l stored.machine) (sym text)
+    holds = λ none. subst (λ (l : List ℕ). HoldsJournal (state_in stored.machine).epoch l stored.machine)
+        (sym text)
         (subst (λ (n : ℕ). HoldsJournal n (first_text epoch opened) stored.machine)
         (sym (ap (λ (s : State). s.epoch) (opening_is (state_in stored.machine) is)))
         (holds_new stored.machine (opening_is (state_in stored.machine) is)));

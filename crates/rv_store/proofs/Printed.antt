@@ -1,5 +1,5 @@
 -- Lines and one more, each with its LF.
-use Rattle.std.proofs.Common.{◌≡◌, ◌++◌, ◌∷◌, ◌∙◌, ℕ, List, [], ap, append_assoc, append-nil, refl, sym}
+use Rattle.std.proofs.Common.{◌≡◌, ◌++◌, ◌∷◌, ◌∙◌, ℕ, List, [], ap, append_assoc, refl, sym}
 use Rattle.rv_book.specs.lines.Lines.{printed_lines}
 
 pub printed_more : (texts : List (List ℕ)) (text : List ℕ)

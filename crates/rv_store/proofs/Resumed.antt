@@ -1,6 +1,7 @@
 -- A journal whose first lines are passed over.
-use Rattle.std.proofs.Common.{◌≡◌, ◌≢◌, ◌⊎◌, ◌<◌, ◌≤◌, ◌+◌, ◌-◌, ◌++◌, ◌∷◌, ◌∙◌, ℕ, Bool, true, false, List, []}
-use Rattle.std.proofs.Common.{◌==◌, ap, append-nil, append_assoc, arith, cond, inl, inr, length, length-append}
+use Rattle.std.proofs.Common.{◌≡◌, ◌≢◌, ◌⊎◌, ◌<◌, ◌+◌, ◌++◌, ◌∷◌, ◌∙◌, ℕ, Bool, true, false, List, []}
+use Rattle.std.proofs.Common.{◌==◌, ap, append-nil, append_assoc, arith, cond, inl, inr, length}
+use Rattle.std.proofs.Common.{length-append}
 use Rattle.std.proofs.Common.{refl, subst, suc, sym, zero}
 use Rattle.std.proofs.lemmas.Bool.{false≢true}
 use Rattle.std.specs.List.{onto_first}
@@ -90,7 +91,12 @@ passes_more n text rest line after passes is lacks =
           ∙ sym (append_assoc passes.passed one after);
       whole = both_lines passes.passed one passes.whole (whole_lines-lf line);
       rest_whole = rest_lines one after (subst IsLines split passes.rest_whole);
-      counted = omega (arith, ap length more, length-append (lines passes.passed) (line ∷ []), passes.counted);
+      counted = omega (
+        arith,
+        ap length more,
+        length-append (lines passes.passed) (line ∷ []),
+        passes.counted,
+      );
     }
 
 -- so many are passed over, or all lines
@@ -253,7 +259,8 @@ pub lacks_lines : (reader : ResumingReader) → (reader.begun ≡ true → 0 < r
     → LacksResumed reader fault.TooFew
 lacks_lines reader some count first text is has = inl (
   refl,
-  λ account other. too_short reader.begun count reader.left text has.account has.rest account has.is has.passes
+  λ account other. too_short reader.begun count reader.left text has.account has.rest account has.is
+      has.passes
       some other,
 )
 
@@ -280,7 +287,8 @@ module _ (machine : Machine) (first : ReaderParts)
   count = (state_in machine).length + 1
 
   pub resumed_epoch : (text : List ℕ) (epoch : ℕ) (reader : ResumingReader) → HasPassed count first [] reader
-      → first.epoch ≡ epoch → IsLines text → (made : Machine) → MakesOf ResumesOn MakesResumed reader text made
+      → first.epoch ≡ epoch → IsLines text → (made : Machine)
+      → MakesOf ResumesOn MakesResumed reader text made
       → (state_in made).epoch ≡ epoch
   resumed_epoch text epoch reader none same is made all =
       let ends = (all.made.1 count first text is (all.taken count first [] refl none)).holds in

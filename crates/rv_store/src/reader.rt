@@ -88,8 +88,8 @@ impl AccountReader {
         }
     }
 
-    /// A reader that goes on from a machine: as one of an account of this epoch does that has read the journal
-    /// of the account whose state the machine holds. It takes no memory yet.
+    /// A reader of an account of this epoch that goes on from a machine: as one that has read the journal of
+    /// the account whose state the machine holds. It takes no memory yet.
     pub(crate) fn after(alloc: Global, epoch: u64, machine: Machine) -> AccountReader
         requires resumes { CanResume (state_in machine) }
         ensures read { (text account : List ℕ) → IsJournalOf text account

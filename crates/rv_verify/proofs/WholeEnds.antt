@@ -1,5 +1,5 @@
 -- What was read to its end, of which whole lines alone count.
-use Rattle.std.proofs.Common.{◌≡◌, ◌∙◌, ◌++◌, ℕ, List, [], Option, ap, subst, sym}
+use Rattle.std.proofs.Common.{◌≡◌, ◌++◌, ℕ, List, [], Option, subst}
 use Rattle.std.specs.Prelude.{◌≢◌, ◌↔◌, IsTrue}
 use Rattle.std.specs.List.{All}
 use Rattle.rv_replies.specs.declared.findings.verdict.AccountFinding.{AccountFinding}

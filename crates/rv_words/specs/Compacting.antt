@@ -1,6 +1,6 @@
 -- The words of `rv compact`.
 use Rattle.std.specs.Prelude.{codes, List, Some, true, [], ◌∷◌, ◌≡◌}
-use Rattle.clap.specs.Words.{App, Rule, Text, fault_of, first_of, matches_of, new_app, new_rule, with_rule}
+use Rattle.clap.specs.Words.{App, Text, fault_of, first_of, matches_of, new_app, new_rule, with_rule}
 use Rattle.clap.specs.declared.builder.ArgAction.TheVariants.{Set}
 use Rattle.rv_words.specs.Beginning.{BeginWithout}
 

@@ -12,7 +12,6 @@ use rv_account::state::resume::Snapshot;
 use rv_checkpoint::CheckpointWriter;
 use rv_frame::{Sink, WriteFault};
 use rv_machine::{Machine, NoMachine};
-use rv_text::NoMemory;
 use rv_verify::{VerifyFault, read_checkpoint};
 use std::alloc::{AllocError, Global};
 use std::fs::{self, File, OpenOptions, TryLockError};
@@ -33,8 +32,8 @@ impl From<WriteFault> for StateFault {
     }
 }
 
-impl From<NoMemory> for StateFault {
-    fn from(_fault: NoMemory) -> StateFault {
+impl From<AllocError> for StateFault {
+    fn from(_fault: AllocError) -> StateFault {
         StateFault::NoMemory
     }
 }
@@ -94,12 +93,23 @@ fn listed(rt: &HostRuntime, folder: &str) -> io::Result<Vec<CheckpointName>> {
     Ok(found)
 }
 
-// The last of these, if there is one.
-fn last_of(names: &[CheckpointName]) -> Option<CheckpointName> {
-    names
-        .iter()
-        .copied()
-        .reduce(|one, other| if one.is_after(other) { one } else { other })
+// The last of these that is of this epoch, if one is.
+fn last_of(names: &[CheckpointName], epoch: u64) -> Option<CheckpointName> {
+    let mut last = None;
+    for name in names {
+        if name.epoch == epoch && is_after_last(*name, last) {
+            last = Some(*name);
+        }
+    }
+    last
+}
+
+// Whether it is after the last one, if there is one.
+fn is_after_last(name: CheckpointName, last: Option<CheckpointName>) -> bool {
+    match last {
+        Some(last) => name.is_after(last),
+        None => true,
+    }
 }
 
 // Where the file of this name lies in a folder.
@@ -119,7 +129,11 @@ fn state_in_file(rt: &HostRuntime, path: &str) -> io::Result<Option<Snapshot>> {
 }
 
 // The machine of a state, if it is the state of this epoch after so many entries.
-fn machine_of(alloc: Global, state: Snapshot, name: CheckpointName) -> Result<Option<Machine>, NoMemory>
+fn machine_of(
+    alloc: Global,
+    state: Snapshot,
+    name: CheckpointName,
+) -> Result<Option<Machine>, AllocError>
     ensures { IfOk result (λ found. IfSome found (λ machine. CanResume (state_in machine)
         × ((state_in machine).epoch ≡ name.epoch) × ((state_in machine).length ≡ name.entries))) }
 {
@@ -142,17 +156,21 @@ fn read_named(rt: &HostRuntime, path: &str, name: CheckpointName) -> io::Result<
     }
 }
 
-/// The machine of the last checkpoint in a store's folder, if it has one.
+/// The machine of the last checkpoint of an epoch's account in a store's folder, if there is one.
 ///
-/// One that can't be read isn't passed over, since an earlier one may lack: it is told as unusable by its name.
-pub fn last_checkpoint(rt: &HostRuntime, folder: &str) -> Result<Option<Machine>, KeepFault>
+/// One that can't be read isn't passed over, since there may be no earlier one: it is told as unusable.
+pub(crate) fn last_checkpoint(
+    rt: &HostRuntime,
+    folder: &str,
+    epoch: u64,
+) -> Result<Option<Machine>, KeepFault>
     ensures { IfOk result (λ found. IfSome found (λ machine. CanResume (state_in machine))) }
 {
     let names = match listed(rt, folder) {
         Ok(names) => names,
         Err(why) => return Err(refused(rt.alloc(), folder, why)),
     };
-    let Some(name) = last_of(&names) else {
+    let Some(name) = last_of(&names, epoch) else {
         return Ok(None);
     };
     let path = path_in(rt.alloc(), folder, name)?;
@@ -211,7 +229,13 @@ fn store_state(rt: &HostRuntime, file: &File, machine: &Machine) -> io::Result<(
 }
 
 // Makes the file of a machine's checkpoint: under another name, until it is stored.
-fn make(rt: &HostRuntime, folder: &str, file: &File, machine: &Machine, path: &str) -> io::Result<()>
+fn make(
+    rt: &HostRuntime,
+    folder: &str,
+    file: &File,
+    machine: &Machine,
+    path: &str,
+) -> io::Result<()>
     requires { CanResume (state_in machine.now) }
 {
     file.set_len(0)?;
@@ -243,7 +267,10 @@ pub fn make_checkpoint(rt: &HostRuntime, folder: &str, machine: &Machine) -> Res
     requires { CanResume (state_in machine.now) }
 {
     let unready = unready_path(rt.alloc(), folder)?;
-    let opened = OpenOptions::new().write(true).create(true).open(rt, unready.as_str());
+    let opened = OpenOptions::new()
+        .write(true)
+        .create(true)
+        .open(rt, unready.as_str());
     let file = match opened {
         Ok(file) => file,
         Err(why) => return Err(refused(rt.alloc(), &unready, why)),
@@ -266,7 +293,11 @@ pub fn make_checkpoint(rt: &HostRuntime, folder: &str, machine: &Machine) -> Res
 fn not_locked(alloc: Global, path: &str, fault: TryLockError) -> KeepFault {
     match fault {
         TryLockError::WouldBlock => {
-            unusable(alloc, path, String::from_str(alloc, "another rv compact writes it"))
+            unusable(
+                alloc,
+                path,
+                String::from_str(alloc, "another rv compact writes it"),
+            )
         }
         TryLockError::Error(why) => refused(alloc, path, why),
     }

@@ -19,7 +19,7 @@ use crate::{
     StoredAccount, VERSION, enter_store,
 };
 use os::errno;
-use rv_journal::folders::{BeginFault, SystemFolder, SystemFolderFault};
+use rv_journal::folders::{BeginFault, SystemFolder, SystemFolderFault, present_epoch};
 use rv_journal::{CreateFault, DeviceFault, OpenFault, SystemFile};
 use rv_machine::Machine;
 use std::fs::File;
@@ -101,6 +101,21 @@ fn kept_so(journal: AccountJournal<SystemFile>, syncs: bool) -> AccountJournal<S
     journal
 }
 
+// The machine of the last checkpoint of the present account, if there is one.
+fn checkpointed(
+    rt: &HostRuntime,
+    folder: &mut SystemFolder<'_>,
+    path: &str,
+) -> Result<Option<Machine>, KeepFault>
+    ensures { IfOk result (λ found. IfSome found (λ machine. CanResume (state_in machine))) }
+{
+    match present_epoch(rt.alloc(), folder) {
+        Ok(Some(epoch)) => last_checkpoint(rt, path, epoch),
+        Ok(None) => Ok(None),
+        Err(why) => Err(told(rt, folder, path, EnterFault::from(why))),
+    }
+}
+
 // The account of a start in this folder.
 fn entered(
     rt: &HostRuntime,
@@ -125,8 +140,9 @@ fn entered(
 
 /// Enters the store of a folder, which is made if its parent is there, and locks it. By the wall clock's
 /// milliseconds it goes on with the present account, if the rules allow that and all that was written of it
-/// is there, or begins a new one. If the store has a checkpoint of that account, it follows what comes after. A store that isn't synced has a note of the machine's boot, and its account
-/// goes on in no other one.
+/// is there, or begins a new one. If the store has a checkpoint of the present account, its entries up to
+/// there are passed over. A store that isn't synced has a note of the machine's boot, and its account goes on
+/// in no other one.
 ///
 /// At `Err` no file of an account has other lines than before.
 pub fn enter<'a>(
@@ -146,7 +162,7 @@ pub fn enter<'a>(
     let boots = Boots::read(rt, path, rules.boot)?;
     let lets_go_on = boots.lets_go_on(rules.syncs);
     let wish = wish_where(rules.epochs, lets_go_on);
-    let from = last_checkpoint(rt, path)?;
+    let from = checkpointed(rt, &mut folder, path)?;
     let EnteredStore { account, choice } = entered(rt, &mut folder, path, wish, wall, from)?;
     boots.note(rt, path, rules.syncs)?;
     let StoredAccount { journal, machine } = account;

@@ -8,7 +8,8 @@ pub loop-left-preserved : goal.loop-left-preserved
 loop-left-preserved c =
     let was = c.loop-left.invariant in (
       was.0 + 1,
-      passes_more was.0 c.args.lines.now c.loop-left.rest.now c.in-Some.field-0-0.now c.in-Some.after.now was.1
+      passes_more was.0 c.args.lines.now c.loop-left.rest.now c.in-Some.field-0-0.now c.in-Some.after.now
+          was.1
           c.in-Some.ensures.parts c.in-Some.ensures.first,
       omega (arith, was.2, c.loop-left-test.true),
     )

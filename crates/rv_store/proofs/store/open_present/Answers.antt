@@ -13,4 +13,5 @@ told_by (Ok value) = OfStore.Folder Failed
 pub returns-in-Err-clause-failed : goal.returns-in-Err-clause-failed
 returns-in-Err-clause-failed g c = λ epoch fault is. fails_before g.F.Folder.directory g.F.File.Device.disk
     c.args.folder.now c.sync.new.self c.present_epoch.new.folder c.sync.ensures.kept
-    c.present_epoch.ensures.kept epoch None fault (c.in-Err.ensures.failed epoch fault (ap Err (ap told_by is)))
+    c.present_epoch.ensures.kept epoch None fault (c.in-Err.ensures.failed epoch fault
+    (ap Err (ap told_by is)))

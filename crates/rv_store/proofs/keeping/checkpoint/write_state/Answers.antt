@@ -4,7 +4,7 @@ use Rattle.std.proofs.KnownBytes.{Appends-trans}
 use Rattle.std.specs.Prelude.{IfSome, String, string_bytes}
 use Rattle.std.specs.declared.alloc.Global.{Global}
 use Rattle.rv_checkpoint.specs.Giving.{HasGiven}
-use Rattle.rv_frame.specs.Sink.{SinkTakes, sink_contents}
+use Rattle.rv_frame.specs.Sink.{SinkTakes}
 use Rattle.rv_store.proofs.Printed.{printed_more}
 use Rattle.rv_store.proofs.keeping.checkpoint.write_state.Goals as goal
 
