@@ -39,6 +39,7 @@ MODULES = [
     "host.run_stores",
     "host.stores",
     "host.store_files",
+    "host.checkpoints",
     "host.power_cuts",
     "host.unsynced",
     "faults.devices",

@@ -22,7 +22,7 @@ returns-in_err-folder_in-in-Some-clause-bad c =
     let exit = err_from_is_err_and c.from_residual.result c.from_residual.ensures.1 in
     let own = c.in-Some.ensures.some in
     rw (exit.1, exit.2) (λ bad folder named. c.in_err-folder_in-in-Some.ensures.bad (ap Err (ap told_by bad))
-        folder
+    folder
     (subst (λ (l : List Text). SaysFolder l folder)
     (ap (λ (l : List Text). codes "compact" ∷ l) (ap after_two (sym named.words_are ∙ own.2)) ∙ sym own.3)
     named.own))
