@@ -2,7 +2,8 @@
 ghost use Rattle.std.specs.Prelude.{◌≡◌, ℕ, None, Err, IfOk, IfSome, string_bytes};
 ghost use Rattle.rv_checkpoint.specs.Saying.{BeginsFresh, SaysAsking, SaysFresh, SaysReplied};
 ghost use Rattle.rv_checkpoint.specs.Saying.{SaysUnseen, session_by};
-ghost use Rattle.rv_checkpoint.specs.Written.{asking_text, client_text, fresh_text, replied_text, unseen_text};
+ghost use Rattle.rv_checkpoint.specs.Written.{asking_text, client_text, fresh_text, replied_text};
+ghost use Rattle.rv_checkpoint.specs.Written.{unseen_text};
 ghost use Rattle.rv_session.specs.declared.client.ClientState as sessions;
 
 use crate::field::{cut_number, cut_texts, cut_version, read_cancel, read_reply, read_request};

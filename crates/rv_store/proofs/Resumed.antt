@@ -23,8 +23,8 @@ use Rattle.rv_store.specs.Joined.{both_lines, refuses_on, takes_on}
 use Rattle.rv_store.specs.Reading.{HasReadJournal, HoldsJournal, IsFaultOfFront, IsFaultOfText, LacksAccount}
 use Rattle.rv_store.specs.Reading.{MakesMachine, ReadsTextOn, RefusesTextOn}
 use Rattle.rv_store.specs.Resumed.{GoesOnFrom}
-use Rattle.rv_store.specs.Resuming.{AreAfter, EndsAt, HasPassed, IsPartOf, IsTooShort, LacksResumed}
-use Rattle.rv_store.specs.Resuming.{MakesResumed, PassesLines, PassesSome, RefusesOn, RefusesResumed}
+use Rattle.rv_store.specs.Resuming.{AreAfter, EndsAt, HasPassedOver, IsPartOf, IsTooShort, LacksResumed}
+use Rattle.rv_store.specs.Resuming.{MakesResumed, PassesLines, PassesSome, RefusesResuming, RefusesResumed}
 use Rattle.rv_store.specs.Resuming.{ResumesOn}
 use Rattle.rv_store.specs.WholeLines.{lines_on, rest_lines}
 use Rattle.rv_store.specs.declared.reader.ReaderParts.{ReaderParts}
@@ -176,9 +176,9 @@ part_on false before text had account is later first =
 
 module _ (count : ℕ) (first : ReaderParts) (before text account rest : List ℕ) (old : ResumingReader)
     (later : old.begun ≡ true → account ≡ text) (begins : old.begun ≡ false → text ≡ format ++ account)
-    (has : HasPassed count first before old) where
+    (has : HasPassedOver count first before old) where
   pub resumes_part : (new : ResumingReader) → new.begun ≡ true → PassesSome old.left new.left account rest
-      → ReadsTextOn old.reader rest new.reader → HasPassed count first (before ++ text) new
+      → ReadsTextOn old.reader rest new.reader → HasPassedOver count first (before ++ text) new
   resumes_part new begun passes reads = record {
     account = has.account ++ account;
     is = subst (λ (b : Bool). IsPartOf b (before ++ text) (has.account ++ account)) (sym begun)
@@ -213,7 +213,7 @@ refuses_first count first before text false account why is fault some = inl (sub
 
 module _ (reader : ResumingReader) where
   ends_at : (P : ReaderParts → Type 0) → reader.begun ≡ true → reader.left ≡ 0 → P reader.reader
-      → (count : ℕ) (first : ReaderParts) (text : List ℕ) → HasPassed count first text reader
+      → (count : ℕ) (first : ReaderParts) (text : List ℕ) → HasPassedOver count first text reader
       → AreAfter count text (EndsAt first P)
   ends_at P begun none holds count first text has = record {
     account = has.account;
@@ -286,7 +286,8 @@ module _ (machine : Machine) (first : ReaderParts)
   abbrev count : ℕ
   count = (state_in machine).length + 1
 
-  pub resumed_epoch : (text : List ℕ) (epoch : ℕ) (reader : ResumingReader) → HasPassed count first [] reader
+  pub resumed_epoch : (text : List ℕ) (epoch : ℕ) (reader : ResumingReader)
+      → HasPassedOver count first [] reader
       → first.epoch ≡ epoch → IsLines text → (made : Machine)
       → MakesOf ResumesOn MakesResumed reader text made
       → (state_in made).epoch ≡ epoch
@@ -329,7 +330,7 @@ module _ (machine : Machine) (first : ReaderParts)
     all_refused why refused = subst (λ (l : List ℕ). IsFaultOfFront l why) front_text
         (refused (format ++ passes.passed) front_whole front_read)
 
-  module _ (text : List ℕ) (epoch : ℕ) (reader : ResumingReader) (none : HasPassed count first [] reader)
+  module _ (text : List ℕ) (epoch : ℕ) (reader : ResumingReader) (none : HasPassedOver count first [] reader)
       (same : first.epoch ≡ epoch) (is : IsLines text) (goes : GoesOnFrom machine text) where
     whole_goes : GoesOnFrom machine (text ++ [])
     whole_goes = subst (GoesOnFrom machine) (sym (append-nil text)) goes
@@ -369,7 +370,7 @@ module _ (machine : Machine) (first : ReaderParts)
         ends.last ends.reads))
 
     pub resumed_refused : (why : RecoveryFault)
-        → RefusesFront RefusesOn reader text why ⊎ LacksOf ResumesOn LacksResumed reader text why
+        → RefusesFront RefusesResuming reader text why ⊎ LacksOf ResumesOn LacksResumed reader text why
         → IsFaultOfText epoch text why
     resumed_refused why refused = elim refused [
       | inl front ↦ refused_front why front.front front.more front.whole front.whole_lines

@@ -13,7 +13,7 @@ use Rattle.rv_store.specs.Epochs.{IsChoice}
 use Rattle.rv_store.specs.Format.{first_text}
 use Rattle.rv_store.specs.Lasting.{journal_of}
 use Rattle.rv_store.specs.Reading.{HoldsJournal}
-use Rattle.rv_store.specs.Resumed.{StandsOn}
+use Rattle.rv_store.specs.Resumed.{StandsFrom}
 use Rattle.rv_store.specs.Store.{OpensPresent}
 use Rattle.rv_store.specs.declared.opening.StoredAccount.{StoredAccount}
 use Rattle.rv_store.specs.declared.wish.EpochChoice.{EpochChoice}
@@ -56,12 +56,12 @@ EntersBy directory disk old new opened from (Begins epoch) stored =
 -- that is stored.
 pub record IsStored {D : Type 0} (disk : Disk D) (from : Option Machine) (stored : StoredAccount D) :
     Type 0 where
-  pub holds : StandsOn from (state_in stored.machine).epoch (journal_text disk (journal_of stored.journal))
+  pub holds : StandsFrom from (state_in stored.machine).epoch (journal_text disk (journal_of stored.journal))
       → HoldsJournal (state_in stored.machine).epoch (journal_text disk (journal_of stored.journal))
       stored.machine
   pub durable : IsDurable disk (journal_of stored.journal)
 
 -- what a machine is given for, where the present epoch goes on: a new one goes on from nothing
-abbrev pub given_for : EpochChoice → Option Machine → Option Machine
-given_for (GoesOn epoch) from = from
-given_for (Begins epoch) from = None
+abbrev pub given_where : EpochChoice → Option Machine → Option Machine
+given_where (GoesOn epoch) from = from
+given_where (Begins epoch) from = None

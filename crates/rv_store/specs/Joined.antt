@@ -3,7 +3,7 @@ use Rattle.std.proofs.Common.{◌++◌, ◌∙◌, ℕ, List, [], ap, append-nil
 use Rattle.rv_journal.specs.Text.{IsLines}
 use Rattle.rv_journal.proofs.Lines.{whole_lines-append}
 use Rattle.rv_store.specs.Reading.{HasReadJournal, IsFaultOfFront, RefusesTextOn, ReadsTextOn}
-use Rattle.rv_store.specs.Resuming.{HasPassed, RefusesOn, RefusesResumed, ResumesOn}
+use Rattle.rv_store.specs.Resuming.{HasPassedOver, RefusesResuming, RefusesResumed, ResumesOn}
 use Rattle.rv_store.specs.declared.reader.ReaderParts.{ReaderParts}
 use Rattle.rv_store.specs.declared.reader.RecoveryFault.{RecoveryFault}
 use Rattle.rv_store.specs.declared.resuming.ResumingReader.{ResumingReader}
@@ -35,16 +35,17 @@ refuses_on old mid text more why is first second before whole has =
 
 pub resumes_none : (reader : ResumingReader) → ResumesOn reader [] reader
 resumes_none reader count first before is has =
-    subst (λ (l : List ℕ). HasPassed count first l reader) (sym (append-nil before)) has
+    subst (λ (l : List ℕ). HasPassedOver count first l reader) (sym (append-nil before)) has
 
 pub resumes_on : (old mid new : ResumingReader) (text more : List ℕ) → IsLines text → ResumesOn old text mid
     → ResumesOn mid more new → ResumesOn old (text ++ more) new
 resumes_on old mid new text more is one other count first before whole has =
-    subst (λ (l : List ℕ). HasPassed count first l new) (append_assoc before text more)
+    subst (λ (l : List ℕ). HasPassedOver count first l new) (append_assoc before text more)
     (other count first (before ++ text) (both_lines before text whole is) (one count first before whole has))
 
 pub resuming_refuses_on : (old mid : ResumingReader) (text more : List ℕ) (why : RecoveryFault)
-    → IsLines text → ResumesOn old text mid → RefusesOn mid more why → RefusesOn old (text ++ more) why
+    → IsLines text → ResumesOn old text mid → RefusesResuming mid more why
+    → RefusesResuming old (text ++ more) why
 resuming_refuses_on old mid text more why is one other count first before whole has =
     subst (λ (l : List ℕ). RefusesResumed count first l why) (append_assoc before text more)
     (other count first (before ++ text) (both_lines before text whole is) (one count first before whole has))

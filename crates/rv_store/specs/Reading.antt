@@ -16,7 +16,7 @@ use Rattle.rv_account.specs.Account.{Account}
 use Rattle.rv_replies.specs.declared.records.Records.{Records}
 use Rattle.rv_verify.specs.declared.ongoing.OngoingAudit.{OngoingAudit}
 use Rattle.rv_store.specs.Format.{HasNoFormat, IsJournalOf, IsVersionIn}
-use Rattle.rv_store.specs.Resumed.{StandsOn}
+use Rattle.rv_store.specs.Resumed.{StandsFrom}
 use Rattle.rv_store.specs.declared.reader.ReaderParts.{ReaderParts}
 use Rattle.rv_store.specs.declared.reader.RecoveryFault.{RecoveryFault}
 use Rattle.rv_store.specs.declared.reader.RecoveryFault.TheVariants as fault
@@ -84,7 +84,7 @@ pub record HoldsJournal (epoch : ℕ) (text : List ℕ) (machine : Machine) : Ty
 pub record IsLeftAsRefused {D : Type 0} (disk : Disk D) (epoch : ℕ) (from : Option Machine) (old new : D)
     (why : RecoveryFault) : Type 0 where
   pub looks : Looks disk old new
-  pub fault : WhereTold disk old (StandsOn from epoch (file_lines disk old)
+  pub fault : WhereTold disk old (StandsFrom from epoch (file_lines disk old)
       → IsFaultOfText epoch (file_lines disk old) why)
 
 -- an audit read the lines of this text after those that it had read

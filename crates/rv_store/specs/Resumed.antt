@@ -16,6 +16,6 @@ pub record GoesOnFrom (machine : Machine) (text : List ℕ) : Type 0 where
   pub holds : HoldsAccountOf front machine
 
 -- so does it where the machine is of this epoch, if there is one
-abbrev pub StandsOn : Option Machine → ℕ → List ℕ → Type 0
-StandsOn None epoch text = Unit {0}
-StandsOn (Some machine) epoch text = (state_in machine).epoch ≡ epoch → GoesOnFrom machine text
+abbrev pub StandsFrom : Option Machine → ℕ → List ℕ → Type 0
+StandsFrom None epoch text = Unit {0}
+StandsFrom (Some machine) epoch text = (state_in machine).epoch ≡ epoch → GoesOnFrom machine text

@@ -33,7 +33,7 @@ IsPartOf false text account = (text ≡ []) × (account ≡ [])
 IsPartOf true text account = IsJournalOf text account
 
 -- the reader has passed over lines of the account, and handed what is after them to one that was so at first
-pub record HasPassed (count : ℕ) (first : ReaderParts) (text : List ℕ) (reader : ResumingReader) : Type 0
+pub record HasPassedOver (count : ℕ) (first : ReaderParts) (text : List ℕ) (reader : ResumingReader) : Type 0
   where
     pub account : List ℕ
     pub is : IsPartOf reader.begun text account
@@ -44,7 +44,7 @@ pub record HasPassed (count : ℕ) (first : ReaderParts) (text : List ℕ) (read
 -- more lines lead from the first state to the second
 abbrev pub ResumesOn : ResumingReader → List ℕ → ResumingReader → Type 0
 ResumesOn old text new = (count : ℕ) (first : ReaderParts) (before : List ℕ) → IsLines before
-    → HasPassed count first before old → HasPassed count first (before ++ text) new
+    → HasPassedOver count first before old → HasPassedOver count first (before ++ text) new
 
 -- a journal's lines after so many of the account's, as such a reader takes or refuses them
 pub record AreAfter (count : ℕ) (text : List ℕ) (P : List ℕ → Type 0) : Type 0 where
@@ -59,9 +59,9 @@ abbrev pub RefusesResumed : ℕ → ReaderParts → List ℕ → RecoveryFault �
 RefusesResumed count first text why = IsFaultOfFront text why
     ⊎ AreAfter count text (λ rest. RefusesTextOn first rest why)
 
-abbrev pub RefusesOn : ResumingReader → List ℕ → RecoveryFault → Type 0
-RefusesOn old text why = (count : ℕ) (first : ReaderParts) (before : List ℕ) → IsLines before
-    → HasPassed count first before old → RefusesResumed count first (before ++ text) why
+abbrev pub RefusesResuming : ResumingReader → List ℕ → RecoveryFault → Type 0
+RefusesResuming old text why = (count : ℕ) (first : ReaderParts) (before : List ℕ) → IsLines before
+    → HasPassedOver count first before old → RefusesResumed count first (before ++ text) why
 
 -- a reader that has read what is after those lines, and no more comes
 pub record EndsAt (first : ReaderParts) (P : ReaderParts → Type 0) (rest : List ℕ) : Type 0 where
@@ -71,7 +71,7 @@ pub record EndsAt (first : ReaderParts) (P : ReaderParts → Type 0) (rest : Lis
 
 abbrev pub MakesResumed : ResumingReader → Machine → Type 0
 MakesResumed reader machine = CanResume (state_in machine) × ((count : ℕ) (first : ReaderParts)
-    (text : List ℕ) → IsLines text → HasPassed count first text reader
+    (text : List ℕ) → IsLines text → HasPassedOver count first text reader
     → AreAfter count text (EndsAt first (λ last. MakesMachine last machine)))
 
 -- the journal of an account of fewer lines
@@ -81,5 +81,5 @@ IsTooShort count text = (account : List ℕ) → IsJournalOf text account → le
 -- its lines are fewer than those that are passed over, or what is after them is no account's
 abbrev pub LacksResumed : ResumingReader → RecoveryFault → Type 0
 LacksResumed reader why = (count : ℕ) (first : ReaderParts) (text : List ℕ) → IsLines text
-    → HasPassed count first text reader → ((why ≡ fault.TooFew) × IsTooShort count text)
+    → HasPassedOver count first text reader → ((why ≡ fault.TooFew) × IsTooShort count text)
     ⊎ AreAfter count text (EndsAt first (λ last. LacksAccount last why))

@@ -13,7 +13,7 @@ use Rattle.rv_machine.specs.Machines.{state_in}
 use Rattle.rv_machine.specs.declared.machine.Machine.{Machine}
 use Rattle.rv_store.specs.Lasting.{journal_of}
 use Rattle.rv_store.specs.Reading.{HoldsJournal, IsLeftAsRefused}
-use Rattle.rv_store.specs.Resumed.{StandsOn}
+use Rattle.rv_store.specs.Resumed.{StandsFrom}
 use Rattle.rv_store.specs.declared.opening.StoredAccount.{StoredAccount}
 use Rattle.rv_store.specs.declared.reader.RecoveryFault.{RecoveryFault}
 
@@ -30,7 +30,7 @@ pub record OpensPresent {F D : Type 0} (directory : Directory F) (disk : Disk D)
     (from : Option Machine) (stored : StoredAccount D) : Type 0 where
   pub file : IsPresentFile directory disk folder (state_in stored.machine).epoch (journal_of
       stored.journal).device
-  pub holds : StandsOn from (state_in stored.machine).epoch (journal_text disk (journal_of stored.journal))
+  pub holds : StandsFrom from (state_in stored.machine).epoch (journal_text disk (journal_of stored.journal))
       → HoldsJournal (state_in stored.machine).epoch (journal_text disk (journal_of stored.journal))
       stored.machine
   pub durable : IsDurable disk (journal_of stored.journal)

@@ -9,7 +9,7 @@ ghost use Rattle.rv_machine.specs.Machines.{state_in};
 ghost use Rattle.rv_account.specs.rules.Steps.{capped_moment};
 ghost use Rattle.rv_account.specs.state.State.{opening};
 ghost use Rattle.rv_account.specs.state.resume.Resuming.{CanResume};
-ghost use Rattle.rv_store.specs.Entered.{AreEpochs, BeginsIn, EntersBy, IsChosen, IsStored, given_for};
+ghost use Rattle.rv_store.specs.Entered.{AreEpochs, BeginsIn, EntersBy, IsChosen, IsStored, given_where};
 ghost use Rattle.rv_store.specs.Epochs.{HasNoChoice};
 ghost use Rattle.rv_store.specs.Lasting.{fault_of, journal_of};
 ghost use Rattle.rv_store.specs.declared.entering.EnterFault.TheVariants as OfEntry;
@@ -110,7 +110,7 @@ pub fn enter_store<F: Folder>(
     ensures enters { IfOk result (λ entered. WhereNamed F.directory folder.old (EntersBy F.directory
         F.File.disk folder.old folder.new (capped_moment now) from entered.choice entered.account)) }
     ensures stored { IfOk result (λ entered. WhereNamed F.directory folder.old
-        (IsStored F.File.disk (given_for entered.choice from) entered.account)) }
+        (IsStored F.File.disk (given_where entered.choice from) entered.account)) }
     ensures resumes { IfOk result (λ entered. CanResume (state_in entered.account.machine)) }
     ensures works { IfOk result (λ entered. fault_of entered.account.journal ≡ None) }
     ensures tells { IfOk result (λ entered.

@@ -12,7 +12,7 @@ ghost use Rattle.rv_machine.specs.declared.machine.Machine as machines;
 ghost use Rattle.rv_account.specs.state.resume.Resuming.{CanResume};
 ghost use Rattle.rv_store.specs.Lasting.{fault_of, journal_of};
 ghost use Rattle.rv_store.specs.Reading.{HoldsJournal, IsLeftAsRefused};
-ghost use Rattle.rv_store.specs.Resumed.{StandsOn};
+ghost use Rattle.rv_store.specs.Resumed.{StandsFrom};
 
 use crate::account_journal::AccountJournal;
 use crate::reader::{AccountReader, RecoveryFault};
@@ -97,7 +97,7 @@ pub fn open_account<D: Device>(
     from: Option<Machine>,
 ) -> Result<StoredAccount<D>, (OpenFault<RecoveryFault>, D)>
     requires resumes { IfSome from (λ machine. CanResume (state_in machine)) }
-    ensures holds { IfOk result (λ stored. WhereTold D.disk device (StandsOn from epoch
+    ensures holds { IfOk result (λ stored. WhereTold D.disk device (StandsFrom from epoch
         (file_lines D.disk device) → HoldsJournal epoch (file_lines D.disk device) stored.machine)) }
     ensures epoch { IfOk result (λ stored. WhereTold D.disk device
         ((state_in stored.machine).epoch ≡ epoch)) }

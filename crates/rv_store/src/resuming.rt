@@ -7,7 +7,7 @@ ghost use Rattle.rv_machine.specs.Machines.{state_in};
 ghost use Rattle.rv_verify.specs.Standing.{HoldsAccountOf};
 ghost use Rattle.rv_store.specs.Format.{IsJournalOf};
 ghost use Rattle.rv_store.specs.Reading.{HasReadJournal};
-ghost use Rattle.rv_store.specs.Resuming.{HasPassed, PassesSome};
+ghost use Rattle.rv_store.specs.Resuming.{HasPassedOver, PassesSome};
 
 use crate::format::account_part;
 use crate::reader::{AccountReader, RecoveryFault};
@@ -31,7 +31,7 @@ impl ResumingReader {
     /// A reader of an account of this epoch that goes on from a machine. It has read no line.
     pub(crate) fn new(alloc: Global, epoch: u64, machine: Machine) -> ResumingReader
         requires resumes { CanResume (state_in machine) }
-        ensures none { HasPassed ((state_in machine).length + 1) result.reader [] result }
+        ensures none { HasPassedOver ((state_in machine).length + 1) result.reader [] result }
         ensures read { (text account : List ℕ) → IsJournalOf text account
             → HoldsAccountOf (lines account) machine → HasReadJournal text result.reader }
         ensures epoch { result.reader.epoch ≡ epoch }
@@ -63,7 +63,7 @@ fn after_lines(count: u64, lines: &[u8]) -> (u64, &[u8])
 }
 
 impl JournalReader for ResumingReader {
-    ghost use Rattle.rv_store.specs.Resuming.{LacksResumed, MakesResumed, RefusesOn, ResumesOn};
+    ghost use Rattle.rv_store.specs.Resuming.{LacksResumed, MakesResumed, RefusesResuming, ResumesOn};
     ghost use Rattle.rv_store.specs.Joined.{resumes_none, resumes_on, resuming_refuses_on};
 
     type Fault = RecoveryFault;
@@ -72,7 +72,7 @@ impl JournalReader for ResumingReader {
 
     ghost takes = { ResumesOn };
 
-    ghost refuses = { RefusesOn };
+    ghost refuses = { RefusesResuming };
 
     ghost makes = { MakesResumed };
 

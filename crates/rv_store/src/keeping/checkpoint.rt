@@ -129,20 +129,16 @@ fn state_in_file(rt: &HostRuntime, path: &str) -> io::Result<Option<Snapshot>> {
 }
 
 // The machine of a state, if it is the state of this epoch after so many entries.
-fn machine_of(
-    alloc: Global,
-    state: Snapshot,
-    name: CheckpointName,
-) -> Result<Option<Machine>, AllocError>
-    ensures { IfOk result (λ found. IfSome found (λ machine. CanResume (state_in machine)
-        × ((state_in machine).epoch ≡ name.epoch) × ((state_in machine).length ≡ name.entries))) }
+fn machine_of(alloc: Global, state: Snapshot, name: CheckpointName) -> Result<Machine, NoMachine>
+    ensures resumes { IfOk result (λ machine. CanResume (state_in machine)) }
+    ensures epoch { IfOk result (λ machine. (state_in machine).epoch ≡ name.epoch) }
+    ensures entries { IfOk result (λ machine. (state_in machine).length ≡ name.entries) }
 {
     match Machine::resume(alloc, state) {
-        Ok(machine) if machine.epoch() == name.epoch && machine.length() as u64 == name.entries => {
-            Ok(Some(machine))
-        }
-        Ok(_) | Err(NoMachine::Unfit) => Ok(None),
-        Err(NoMachine::NoMemory) => Err(AllocError),
+        Ok(machine) if machine.epoch() != name.epoch => Err(NoMachine::Unfit),
+        Ok(machine) if machine.length() as u64 != name.entries => Err(NoMachine::Unfit),
+        Ok(machine) => Ok(machine),
+        Err(why) => Err(why),
     }
 }
 
@@ -150,9 +146,13 @@ fn machine_of(
 fn read_named(rt: &HostRuntime, path: &str, name: CheckpointName) -> io::Result<Option<Machine>>
     ensures { IfOk result (λ found. IfSome found (λ machine. CanResume (state_in machine))) }
 {
-    match state_in_file(rt, path)? {
-        Some(state) => Ok(machine_of(rt.alloc(), state, name)?),
-        None => Ok(None),
+    let Some(state) = state_in_file(rt, path)? else {
+        return Ok(None);
+    };
+    match machine_of(rt.alloc(), state, name) {
+        Ok(machine) => Ok(Some(machine)),
+        Err(NoMachine::Unfit) => Ok(None),
+        Err(NoMachine::NoMemory) => Err(io::Error::from(ErrorKind::OutOfMemory)),
     }
 }
 

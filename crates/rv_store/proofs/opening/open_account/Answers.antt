@@ -4,7 +4,7 @@ use Rattle.rv_journal.specs.Opened.{file_lines}
 use Rattle.rv_journal.specs.Text.{before_zero}
 use Rattle.rv_journal.proofs.Lines.{lines_only}
 use Rattle.rv_machine.specs.declared.machine.Machine.{Machine}
-use Rattle.rv_store.specs.Resumed.{StandsOn}
+use Rattle.rv_store.specs.Resumed.{StandsFrom}
 use Rattle.rv_store.proofs.Refused.{made_lines, refused_lines}
 use Rattle.rv_store.proofs.Reopened.{on_refused}
 use Rattle.rv_store.proofs.Resumed.{each_err, each_ok, resumed_epoch, resumed_made, resumed_refused}
@@ -17,7 +17,7 @@ returns-in-Some-clause-holds g c = each_ok c.open_by.result _ _ (λ stored made 
     let fits = c.in-Some.ensures.some in
     resumed_made c.in-Some.machine c.new.result.reader c.new.ensures.read text c.args.epoch c.new.result
     c.new.ensures.none c.new.ensures.epoch (lines_only (before_zero (disk.seen c.args.device)))
-    (subst (λ (m : Option Machine). StandsOn m c.args.epoch text) fits.0 stands fits.1) stored.machine
+    (subst (λ (m : Option Machine). StandsFrom m c.args.epoch text) fits.0 stands fits.1) stored.machine
     (made told)) c.open_by.ensures.made
 
 pub returns-in-Some-clause-epoch : goal.returns-in-Some-clause-epoch
@@ -37,7 +37,7 @@ returns-in-Some-clause-refused g c = each_err c.open_by.result _ _ (λ failed re
       fault = λ told stands. resumed_refused c.in-Some.machine c.new.result.reader c.new.ensures.read text
           c.args.epoch c.new.result c.new.ensures.none c.new.ensures.epoch
           (lines_only (before_zero (disk.seen c.args.device)))
-          (subst (λ (m : Option Machine). StandsOn m c.args.epoch text) fits.0 stands fits.1) why
+          (subst (λ (m : Option Machine). StandsFrom m c.args.epoch text) fits.0 stands fits.1) why
           (left.lines told);
     }) refused) c.open_by.ensures.refused
 
