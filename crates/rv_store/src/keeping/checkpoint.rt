@@ -17,6 +17,10 @@ use std::alloc::{AllocError, Global};
 use std::fs::{self, File, OpenOptions, TryLockError};
 use std::io::{self, BufReader, BufWriter, ErrorKind, Write};
 
+// How often checkpoints are listed again if the last one is gone before it is opened: each time another was
+// made meanwhile.
+const AGAIN: u32 = 8;
+
 /// Why the lines of a state were not all written.
 #[derive(Clone, Copy)]
 pub enum StateFault {
@@ -158,12 +162,34 @@ fn read_named(rt: &HostRuntime, path: &str, name: CheckpointName) -> io::Result<
 
 /// The machine of the last checkpoint of an epoch's account in a store's folder, if there is one.
 ///
-/// One that can't be read isn't passed over, since there may be no earlier one: it is told as unusable.
+/// One that can't be read isn't passed over, since there may be no earlier one: it is told as unusable. One
+/// that is gone since it was listed makes way for a later one.
 pub(crate) fn last_checkpoint(
     rt: &HostRuntime,
     folder: &str,
     epoch: u64,
 ) -> Result<Option<Machine>, KeepFault>
+    ensures { IfOk result (λ found. IfSome found (λ machine. CanResume (state_in machine))) }
+{
+    for _again in 0..AGAIN {
+        let found = look(rt, folder, epoch);
+        if !is_gone(&found) {
+            return found;
+        }
+    }
+    look(rt, folder, epoch)
+}
+
+// Whether a file was gone when it was opened.
+fn is_gone(found: &Result<Option<Machine>, KeepFault>) -> bool {
+    match found {
+        Err(KeepFault::Named(_, why)) => why.kind() == ErrorKind::NotFound,
+        _ => false,
+    }
+}
+
+// The same, looked for once.
+fn look(rt: &HostRuntime, folder: &str, epoch: u64) -> Result<Option<Machine>, KeepFault>
     ensures { IfOk result (λ found. IfSome found (λ machine. CanResume (state_in machine))) }
 {
     let names = match listed(rt, folder) {
