@@ -1,7 +1,7 @@
 #!/usr/bin/env python3
 """Measures what a start takes that goes on with a store's account of many entries: of STEPS, seconds until it is opened; of
-PROGRAM, until `rv host` listens, and then welcomes a client; and the most memory. The account is that of tools/bench/verified.py,
-and is read from the disk anew.
+PROGRAM, until `rv host` listens, and then welcomes a client; the same once `rv compact` made a checkpoint; and the most memory. The
+account is that of tools/bench/verified.py, and is read from the disk anew.
 
 usage: tools/bench/store.py PROGRAM STEPS [ENTRIES] [FOLDER]
   ENTRIES   how many instead of 10,000,000
@@ -16,6 +16,7 @@ import subprocess
 import sys
 import tempfile
 import time
+from collections.abc import Callable
 from typing import NamedTuple
 
 ROOT = pathlib.Path(__file__).resolve().parents[2]
@@ -66,7 +67,28 @@ def opened(steps: str, folder: pathlib.Path, entries: int) -> Took:
     return Took(took, usage.ru_maxrss)
 
 
-def hosted(program: str, folder: pathlib.Path, entries: int) -> Took:
+def compacted(program: str, folder: pathlib.Path, entries: int) -> Took:
+    """What a checkpoint takes, and how many bytes it has."""
+    began = time.monotonic()
+    with subprocess.Popen([program, "compact", str(folder)], stdout=subprocess.PIPE) as maker:
+        assert maker.stdout
+        told = maker.stdout.read()
+        _, status, usage = os.wait4(maker.pid, 0)
+        maker.returncode = os.waitstatus_to_exitcode(status)
+    took = time.monotonic() - began
+    # the client that a start welcomed before
+    if maker.returncode or told != b"checkpoint after %d entries\n" % (entries + 1):
+        sys.exit(f"it told {told!r}, with status {maker.returncode}")
+    state, = folder.glob("epoch-1-*.state")
+    return Took(took, usage.ru_maxrss, f", {state.stat().st_size:,} bytes")
+
+
+def resumed(program: str, folder: pathlib.Path, entries: int) -> Took:
+    """What a start takes that goes on from a checkpoint after all entries."""
+    return hosted(program, folder, entries + 1, 2)
+
+
+def hosted(program: str, folder: pathlib.Path, entries: int, newest: int = 1) -> Took:
     """What a host takes until it listens, and has welcomed a client that is new."""
     began = time.monotonic()
     with StoreHost(program, folder) as host:
@@ -74,7 +96,7 @@ def hosted(program: str, folder: pathlib.Path, entries: int) -> Took:
             sys.exit(f"it starts with {host.start}")
         host.connect().close()
         listens = time.monotonic() - began
-        host.greeted(CLIENTS + 1).close()
+        host.greeted(CLIENTS + newest).close()
         welcomes = time.monotonic() - began
         more = f", {memory(host.process.pid) >> 10:,} then; a client is welcome after {welcomes:.1f} s"
         return Took(listens, most_memory(host.process.pid) >> 10, more)
@@ -93,9 +115,12 @@ def main() -> None:
         size = made(folder, entries)
         print(f"starts after {entries:,} entries, {size >> 20:,} MiB on {system}:", flush=True)
         slowest = 0.0
-        for what, start, path in (("opened by the program for tests", opened, steps), ("rv host listens", hosted, program)):
+        parts: list[tuple[str, Callable[[str, pathlib.Path, int], Took], str]] = [
+            ("opened by the program for tests", opened, steps), ("rv host listens", hosted, program),
+            ("rv compact", compacted, program), ("rv host listens with a checkpoint", resumed, program)]
+        for what, part, path in parts:
             disks.forget(account_file(folder, 1))
-            took = start(path, folder, entries)
+            took = part(path, folder, entries)
             print(f"  {what}: {took.seconds:.1f} s, at most {took.kilobytes:,} KB{took.more}", flush=True)
             slowest = max(slowest, took.seconds)
     sys.exit(slowest > MOST_SECONDS)
