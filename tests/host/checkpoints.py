@@ -6,6 +6,7 @@ import functools
 import pathlib
 import random
 import subprocess
+import threading
 import unittest
 
 from tests.cases import Case, SideBySide
@@ -135,6 +136,26 @@ class GoesOn(CheckpointCase):
         with KilledHost(self.program, self.store, options=ANY) as host:
             kills = under_kills(host, ledger, chance, lambda is_last: self.compacts(host))
         self.told = f"{kills} kills"
+
+    def test_beside(self) -> None:
+        """Checkpoints are made one after another beside a host that is killed: each is made, and each start goes on."""
+        chance, ledger, ends = random.Random(f"beside {self.seed}"), Ledger(), threading.Event()
+        made: list[subprocess.CompletedProcess[bytes]] = []
+
+        def make() -> None:
+            while not ends.is_set():
+                made.append(self.ran())
+
+        with KilledHost(self.program, self.store, options=ANY) as host:
+            maker = threading.Thread(target=make)
+            maker.start()
+            try:
+                kills = under_kills(host, ledger, chance)
+            finally:
+                ends.set()
+                maker.join()
+        self.check_equal("each is made", [ran for ran in made if ran.returncode or ran.stderr], [])
+        self.told = f"{kills} kills, {len(made)} checkpoints"
 
 
 class Refused(CheckpointCase):

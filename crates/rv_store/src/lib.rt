@@ -1,7 +1,7 @@
 //! An account in a journal: what was written of it is found after a crash, and a server goes on from there.
 //!
 //! ```
-//! let StoredAccount { journal, machine } = open_account(alloc, device)?;
+//! let StoredAccount { journal, machine } = open_account(alloc, device, 7, None)?;
 //! ```
 #![tactic(auto)]
 

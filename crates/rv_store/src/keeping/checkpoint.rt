@@ -1,9 +1,10 @@
 //! The checkpoints of a store: files of a state each, from which a start goes on.
 ghost use Rattle.std.specs.Prelude.{◌≡◌, ◌++◌, ◌∷◌, ◌↔◌, ◌<◌, ◌⊎◌, IfOk, IfSome, IsTrue, OnOk, string_bytes};
-ghost use Rattle.std.specs.Prelude.{[]};
+ghost use Rattle.std.specs.Prelude.{[], Err, OnErr, true};
 ghost use Rattle.rv_account.specs.state.resume.Resuming.{CanResume};
-ghost use Rattle.rv_frame.specs.Sink.{SinkTakes};
+ghost use Rattle.rv_frame.specs.Sink.{SinkTakes, sink_failed};
 ghost use Rattle.rv_machine.specs.Machines.{state_in};
+ghost use Rattle.rv_store.specs.declared.keeping.checkpoint.StateFault.TheVariants as OfState;
 ghost use Rattle.rv_store.specs.keeping.Checkpoints.{TakesState};
 
 use crate::keeping::fault::{KeepFault, refused, unusable};
@@ -31,12 +32,16 @@ pub enum StateFault {
 }
 
 impl From<WriteFault> for StateFault {
+    ghost from_gives = { λ _ told. told ≡ OfState.Write };
+
     fn from(_fault: WriteFault) -> StateFault {
         StateFault::Write
     }
 }
 
 impl From<AllocError> for StateFault {
+    ghost from_gives = { λ _ told. told ≡ OfState.NoMemory };
+
     fn from(_fault: AllocError) -> StateFault {
         StateFault::NoMemory
     }
@@ -212,7 +217,8 @@ fn look(rt: &HostRuntime, folder: &str, epoch: u64) -> Result<Option<Machine>, K
 
 // Writes a line, and LF after it.
 fn put_line<W: Write>(sink: &mut Sink<W>, line: String) -> Result<(), WriteFault>
-    ensures { OnOk result (SinkTakes W.contents sink.old sink.new (string_bytes line ++ 10 ∷ [])) }
+    ensures took { OnOk result (SinkTakes W.contents sink.old sink.new (string_bytes line ++ 10 ∷ [])) }
+    ensures fault { OnErr result (sink_failed sink.new ≡ true) }
 {
     sink.write_all(line.as_bytes())?;
     sink.write_all(b"\n")
@@ -226,7 +232,8 @@ pub fn write_state<W: Write>(
     sink: &mut Sink<W>,
 ) -> Result<(), StateFault>
     requires { CanResume state }
-    ensures { OnOk result (TakesState W.contents sink.old sink.new state) }
+    ensures took { OnOk result (TakesState W.contents sink.old sink.new state) }
+    ensures fault { result ≡ Err OfState.Write → sink_failed sink.new ≡ true }
 {
     let mut writer = CheckpointWriter::new(state);
     for _turn in 0..u64::MAX {

@@ -10,4 +10,5 @@ returns-in-Ok-into_machine-clause-machine g c =
     c.read_on.new.self c.read_on.new.records _ c.in-Ok.field-0 c.in-Ok-into_machine.machine
     c.new-audit.ensures.piece (c.in-Ok.ensures.read [] bytes (c.new-audit.ensures.read c.new-records.result
     (λ a none. c.new-records.ensures.stands a))
-    (c.in_ok-reader.ensures ∙ ap (λ i. g.F.Read.remaining i) c.new.ensures ∙ known)) c.in-Ok-into_machine.ensures.holds)
+    (c.in_ok-reader.ensures ∙ ap (λ i. g.F.Read.remaining i) c.new.ensures ∙ known))
+    c.in-Ok-into_machine.ensures.holds)

@@ -22,5 +22,5 @@ loop-turn-preserved g c =
           c.in_ok-line.ensures.gives was.before was.given;
       took = subst (λ (l : List ℕ). SinkTakes g.W.Write.contents c.args.sink.now c.put_line.new.sink l)
           (sym (printed_more was.before text))
-          (Appends-trans _ _ _ _ _ was.took c.in_ok-put_line-in-Some.ensures);
+          (Appends-trans _ _ _ _ _ was.took c.in_ok-put_line-in-Some.ensures.took);
     }
