@@ -3,6 +3,7 @@ from __future__ import annotations
 
 import fcntl
 import functools
+import os
 import pathlib
 import random
 import subprocess
@@ -11,6 +12,7 @@ import unittest
 
 from tests.cases import Case, SideBySide
 from tests.faults.system import InSystems
+from tests.host.files import bounded
 from tests.host.stored import KilledHost, StoreCase, StoreHost
 from tests.host.stores import ANY, CLIENTS, EPOCH, Talk, under_kills
 from tests.journal.store import FORMAT, ROOM, text_of
@@ -154,6 +156,7 @@ class GoesOn(CheckpointCase):
             finally:
                 ends.set()
                 maker.join()
+        self.check("some are made", made)
         self.check_equal("each is made", [ran for ran in made if ran.returncode or ran.stderr], [])
         self.told = f"{kills} kills, {len(made)} checkpoints"
 
@@ -190,7 +193,33 @@ class Refused(CheckpointCase):
         account = account_file(self.store, EPOCH)
         whole = text_of(account.read_bytes()).splitlines(keepends=True)
         account.write_bytes(b"".join(whole[:-1]) + ROOM)
-        self.told_of(account, "fewer entries", "fewer entries than the checkpoint has")
+        self.told_of(account, "fewer entries", "fewer entries than a .state file of it, which is no checkpoint of it")
+        # an epoch that begins needs none of it
+        file.write_bytes(b"")
+        with self.host("--new-epoch") as host:
+            self.check("another epoch begins", host.start.epoch > EPOCH and host.start.entries is None, host.start)
+
+    def test_an_epoch_that_begins_again(self) -> None:
+        """The account of an epoch was taken away: it begins anew, and the checkpoint of the one that was there goes."""
+        self.kept()
+        demand(self.ran().returncode == 0, "no checkpoint is made")
+        account_file(self.store, EPOCH).unlink()
+        with self.host(*ANY) as host:
+            self.check_equal("it begins", host.start, Start(EPOCH, None))
+            self.check_equal("no checkpoint is left", self.states(), [])
+            host.greeted(9).close()
+            host.start_again()
+            self.check_equal("it goes on", host.start, Start(EPOCH, 1))
+
+    def test_a_full_disk(self) -> None:
+        """What a checkpoint took of a disk that is full is given back, and the one before stays."""
+        self.kept()
+        demand(self.ran().returncode == 0, "no checkpoint is made")
+        held = self.held()
+        ran = subprocess.run([self.program, "compact", str(self.store)], capture_output=True, timeout=PATIENCE,
+                             preexec_fn=lambda: bounded(64), restore_signals=False)
+        self.check("it is told", ran.returncode == 1 and ran.stderr.startswith(f"store {self.states()[0]}: ".encode()), ran)
+        self.check_equal("files", self.held(), held)
 
     def told_of(self, path: pathlib.Path, name: str, why: str) -> None:
         """A start is refused by this line."""
@@ -206,14 +235,17 @@ class Refused(CheckpointCase):
         account = account_file(self.store, EPOCH)
         for name, text, why in [("another version", b"journal 2 epoch 7 opened 0\n", "journal version 2; version 1 is read"),
                                 ("no line", FORMAT + b"epoch 7", "the journal has no whole line"),
-                                ("no journal", b"epoch 7 opened 0\n", "the journal has no whole line"),
+                                ("no journal", b"epoch 7 opened 0\n", "no journal"),
                                 ("no entry", FORMAT + b"epoch 7 opened 0\nnone\n", "no legal account: rv verify tells where")]:
             account.write_bytes(text + ROOM)
             self.makes_none(name, account, why)
         account.write_bytes(FORMAT + b"epoch 7 opened 0\n" + ROOM)
-        with open(self.store / UNREADY, "wb") as other:
+        other = os.open(self.store, os.O_RDONLY)
+        try:
             fcntl.flock(other, fcntl.LOCK_EX)
-            self.makes_none("another one", self.store / UNREADY, "another rv compact writes it")
+            self.makes_none("another one", self.store, "another rv compact has it")
+        finally:
+            os.close(other)
 
     def makes_none(self, name: str, path: pathlib.Path, why: str) -> None:
         """No checkpoint is made, by this line."""

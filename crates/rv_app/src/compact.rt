@@ -4,9 +4,8 @@ ghost use Rattle.rv_account.specs.state.resume.Resuming.{CanResume};
 ghost use Rattle.rv_app.specs.Compacting.{IsMachineOf};
 ghost use Rattle.rv_machine.specs.Machines.{state_in};
 
-use crate::again::size_of;
 use crate::fault::NoAccount;
-use crate::journal::{FileKind, JournalText, kind_of};
+use crate::journal::{FileKind, JournalLines, kind_of};
 use crate::verify::{buffered, run_fault, unread};
 use crate::watch::{Watch, Watched};
 use rv_journal::folders::present_account;
@@ -14,7 +13,7 @@ use rv_machine::Machine;
 use rv_replies::Records;
 use rv_run::RunFault;
 use rv_store::keeping::{KeepFault, make_checkpoint};
-use rv_verify::OngoingAudit;
+use rv_verify::{OngoingAudit, Pause};
 use std::fs::File;
 use std::io::Read;
 use std::process::ExitCode;
@@ -39,7 +38,8 @@ pub(crate) fn run_compact(rt: &HostRuntime, folder: &str) -> Result<ExitCode, Ru
         FileKind::OtherVersion(version) => {
             Ok(not_made(rt, &path, &NoAccount::OtherVersion(version)))
         }
-        FileKind::NoLine | FileKind::Other => Ok(not_made(rt, &path, &NoAccount::NoLine)),
+        FileKind::NoLine => Ok(not_made(rt, &path, &NoAccount::NoLine)),
+        FileKind::Other => Ok(not_made(rt, &path, &"no journal")),
     }
 }
 
@@ -50,16 +50,28 @@ fn compact_journal(
     path: &str,
     file: File,
 ) -> Result<ExitCode, RunFault> {
-    let text = JournalText::new(file);
+    // opened before the reading: a sync tells it of all faults since then
+    let same = match File::open(rt, path) {
+        Ok(same) => same,
+        Err(error) => return Ok(not_made(rt, path, &error)),
+    };
+    let text = JournalLines::new(rt.alloc(), file);
     let size = text.size();
     let Some(machine) = machine_in(rt, size, text)? else {
         return Ok(not_made(rt, path, &"no legal account: rv verify tells where"));
     };
     // what was read is stored before the state that it gives
-    if let Err(error) = File::open(rt, path).and_then(|file| file.sync_all()) {
+    if let Err(error) = same.sync_all() {
         return Ok(not_made(rt, path, &error));
     }
-    match make_checkpoint(rt, folder, &machine) {
+    checkpoint(rt, folder, &machine)
+}
+
+// Makes a checkpoint of a machine, and prints after how many entries.
+fn checkpoint(rt: &HostRuntime, folder: &str, machine: &Machine) -> Result<ExitCode, RunFault>
+    requires { CanResume (state_in machine.now) }
+{
+    match make_checkpoint(rt, folder, machine) {
         Ok(()) => {
             let _ = println!(rt; "checkpoint after {} entries", machine.length());
             Ok(ExitCode::SUCCESS)
@@ -102,10 +114,11 @@ fn machine_watched<F: Read + Drop>(
     let mut audit = OngoingAudit::new(alloc);
     let mut records = Records::new(alloc);
     match audit.read_on(alloc, &mut reader, &mut records) {
-        Ok(_) => match audit.into_machine() {
+        Ok(Pause::End) => match audit.into_machine() {
             Ok(machine) => Ok(Some(machine)),
             Err(_) => Ok(None),
         },
+        Ok(Pause::Fault) => Ok(None),
         Err(fault) => Err(run_fault(fault)),
     }
 }

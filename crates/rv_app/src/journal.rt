@@ -5,6 +5,7 @@ use crate::again::{Again, size_of};
 use rv_book::lines::cut_at;
 use rv_store::{FORMAT, VERSION};
 use rv_text::read_identifier;
+use std::alloc::Global;
 use std::fs::File;
 use std::io;
 use std::io::Read;
@@ -77,11 +78,6 @@ impl JournalText {
             at: FORMAT_BYTES as u64,
         }
     }
-
-    /// How many bytes its file has.
-    pub(crate) fn size(&self) -> u64 {
-        size_of(&self.file)
-    }
 }
 
 // How many bytes come before the first zero.
@@ -101,6 +97,74 @@ impl Read for JournalText {
         let count = self.file.read_at(buffer, self.at)?;
         let count = before_zero(&buffer[..count]);
         self.at = self.at.saturating_add(count as u64);
+        Ok(count)
+    }
+}
+
+// How many bytes of a journal are read at once: more than its longest line has.
+const READ_BYTES: usize = 65_536;
+
+/// The whole lines of a journal's account, as it stands. Each comes from one reading of the file: a server
+/// that starts meanwhile may clear the front of a line, and write another one there.
+#[derive(Drop)]
+pub(crate) struct JournalLines {
+    file: File,
+    at: u64,
+    // What was read of whole lines, and how much of that was handed on.
+    held: Vec<u8>,
+    given: usize,
+}
+
+impl JournalLines {
+    /// Those of this file.
+    pub(crate) fn new(alloc: Global, file: File) -> JournalLines {
+        JournalLines {
+            file,
+            at: FORMAT_BYTES as u64,
+            held: Vec::new(alloc),
+            given: 0,
+        }
+    }
+
+    /// How many bytes its file has.
+    pub(crate) fn size(&self) -> u64 {
+        size_of(&self.file)
+    }
+
+    // Reads whole lines on, or none where the journal ends.
+    fn fill(&mut self) -> io::Result<()> {
+        self.held.clear();
+        self.given = 0;
+        self.held.resize(READ_BYTES, 0)?;
+        let count = self.file.read_at(&mut self.held, self.at)?;
+        let whole = after_lines(&self.held[..count]);
+        self.held.truncate(whole);
+        self.at = self.at.saturating_add(whole as u64);
+        Ok(())
+    }
+}
+
+// How many bytes whole lines have that come before the first zero.
+fn after_lines(bytes: &[u8]) -> usize
+    ensures { result ≤ length bytes.now }
+{
+    let text = &bytes[..before_zero(bytes)];
+    text.iter()
+        .rposition(|byte| *byte == b'\n')
+        .map_or(0, |last| last + 1)
+}
+
+impl Read for JournalLines {
+    ghost remaining = { λ _. None };
+
+    fn read(&mut self, buffer: &mut [u8]) -> io::Result<usize> {
+        if self.given == self.held.len() {
+            self.fill()?;
+        }
+        let left = self.held.get(self.given..).unwrap_or(&[]);
+        let count = left.len().min(buffer.len());
+        buffer[..count].copy_from_slice(&left[..count]);
+        self.given = self.given.saturating_add(count);
         Ok(count)
     }
 }
@@ -129,6 +193,6 @@ impl Again for JournalFile<'_> {
     }
 
     fn size(&self, input: &JournalText) -> u64 {
-        input.size()
+        size_of(&input.file)
     }
 }

@@ -24,8 +24,8 @@ pub enum EpochChoice {
 }
 
 impl EpochWish {
-    // Whether an epoch is allowed, and may go on.
-    fn lets_go_on(self, epoch: u64) -> bool
+    /// Whether an epoch is allowed, and may go on.
+    pub(crate) fn lets_go_on(self, epoch: u64) -> bool
         ensures yes { OnTrue result (MayGoOn self epoch) }
         ensures no { OnFalse result (MayGoOn self epoch → ⊥) }
     {

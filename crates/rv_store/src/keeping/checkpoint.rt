@@ -15,7 +15,7 @@ use rv_frame::{Sink, WriteFault};
 use rv_machine::{Machine, NoMachine};
 use rv_verify::{VerifyFault, read_checkpoint};
 use std::alloc::{AllocError, Global};
-use std::fs::{self, File, OpenOptions, TryLockError};
+use std::fs::{self, File, TryLockError};
 use std::io::{self, BufReader, BufWriter, ErrorKind, Write};
 
 // How often checkpoints are listed again if the last one is gone before it is opened: each time another was
@@ -245,14 +245,15 @@ pub fn write_state<W: Write>(
     Err(StateFault::NoMemory)
 }
 
-// Writes the state of a machine into a file that is empty, and stores it.
-fn store_state(rt: &HostRuntime, file: &File, machine: &Machine) -> io::Result<()>
+// Writes the state of a machine into a new file of this path, and stores it.
+fn store_state(rt: &HostRuntime, path: &str, machine: &Machine) -> io::Result<()>
     requires { CanResume (state_in machine.now) }
 {
     let Ok(state) = machine.state() else {
         return Err(io::Error::from(ErrorKind::OutOfMemory));
     };
-    let mut sink = Sink::new(BufWriter::new(rt.alloc(), file)?);
+    let file = File::create(rt, path)?;
+    let mut sink = Sink::new(BufWriter::new(rt.alloc(), &file)?);
     let written = write_state(rt.alloc(), state, &mut sink);
     match written {
         Ok(()) if sink.flush().is_ok() => file.sync_all(),
@@ -262,25 +263,25 @@ fn store_state(rt: &HostRuntime, file: &File, machine: &Machine) -> io::Result<(
 }
 
 // Makes the file of a machine's checkpoint: under another name, until it is stored.
-fn make(
-    rt: &HostRuntime,
-    folder: &str,
-    file: &File,
-    machine: &Machine,
-    path: &str,
-) -> io::Result<()>
+fn make(rt: &HostRuntime, folder: &str, machine: &Machine, path: &str) -> io::Result<()>
     requires { CanResume (state_in machine.now) }
 {
-    file.set_len(0)?;
-    store_state(rt, file, machine)?;
-    let unready = unready_path(rt.alloc(), folder)?;
+    let unready = format!(in rt.alloc(); "{folder}/unready.state")?;
+    if let Err(why) = store_state(rt, &unready, machine) {
+        // what a full disk took is given back
+        let _ = fs::remove_file(rt, unready.as_str());
+        return Err(why);
+    }
     fs::rename(rt, unready.as_str(), path)?;
     File::open(rt, folder)?.sync_all()
 }
 
-// Where a checkpoint lies that is being made.
-fn unready_path(alloc: Global, folder: &str) -> Result<String, AllocError> {
-    format!(in alloc; "{folder}/unready.state")
+// Removes a file, if it is there.
+fn remove(rt: &HostRuntime, path: &str) -> io::Result<()> {
+    match fs::remove_file(rt, path) {
+        Err(why) if why.kind() != ErrorKind::NotFound => Err(why),
+        _ => Ok(()),
+    }
 }
 
 // Removes the checkpoints before this one.
@@ -288,50 +289,65 @@ fn remove_before(rt: &HostRuntime, folder: &str, last: CheckpointName) -> io::Re
     for name in listed(rt, folder)?.iter() {
         if last.is_after(*name) {
             let path = path_in(rt.alloc(), folder, *name)?;
-            fs::remove_file(rt, path.as_str())?;
+            remove(rt, &path)?;
         }
     }
     Ok(())
 }
 
+// Removes the checkpoints of an epoch.
+fn remove_of(rt: &HostRuntime, folder: &str, epoch: u64) -> io::Result<()> {
+    for name in listed(rt, folder)?.iter() {
+        if name.epoch == epoch {
+            let path = path_in(rt.alloc(), folder, *name)?;
+            remove(rt, &path)?;
+        }
+    }
+    File::open(rt, folder)?.sync_all()
+}
+
+/// Removes the checkpoints of an epoch whose account was begun: they are of one that was there before.
+pub(crate) fn forget(rt: &HostRuntime, folder: &str, epoch: u64) -> Result<(), KeepFault> {
+    match remove_of(rt, folder, epoch) {
+        Ok(()) => Ok(()),
+        Err(why) => Err(refused(rt.alloc(), folder, why)),
+    }
+}
+
 /// Makes a checkpoint of a machine's state in a store's folder, and removes those before it once it is
-/// stored. A crash leaves them, or it. One `rv compact` at a time can do so.
+/// stored: a crash leaves the last of them, or it. Fails if another `rv compact` does so, or the system
+/// refuses it; then there is no other checkpoint than before, or both.
 pub fn make_checkpoint(rt: &HostRuntime, folder: &str, machine: &Machine) -> Result<(), KeepFault>
     requires { CanResume (state_in machine.now) }
 {
-    let unready = unready_path(rt.alloc(), folder)?;
-    let opened = OpenOptions::new()
-        .write(true)
-        .create(true)
-        .open(rt, unready.as_str());
-    let file = match opened {
-        Ok(file) => file,
-        Err(why) => return Err(refused(rt.alloc(), &unready, why)),
+    let place = match File::open(rt, folder) {
+        Ok(place) => place,
+        Err(why) => return Err(refused(rt.alloc(), folder, why)),
     };
-    if let Err(fault) = file.try_lock() {
-        return Err(not_locked(rt.alloc(), &unready, fault));
+    if let Err(fault) = place.try_lock() {
+        return Err(not_locked(rt.alloc(), folder, fault));
     }
     let name = CheckpointName {
         epoch: machine.epoch(),
         entries: machine.length() as u64,
     };
     let path = path_in(rt.alloc(), folder, name)?;
-    match make(rt, folder, &file, machine, &path).and_then(|()| remove_before(rt, folder, name)) {
+    match make(rt, folder, machine, &path).and_then(|()| remove_before(rt, folder, name)) {
         Ok(()) => Ok(()),
         Err(why) => Err(refused(rt.alloc(), &path, why)),
     }
 }
 
-// Why the file of a checkpoint that is being made isn't this program's.
-fn not_locked(alloc: Global, path: &str, fault: TryLockError) -> KeepFault {
+// Why the checkpoints of a folder aren't this program's to make.
+fn not_locked(alloc: Global, folder: &str, fault: TryLockError) -> KeepFault {
     match fault {
         TryLockError::WouldBlock => {
             unusable(
                 alloc,
-                path,
-                String::from_str(alloc, "another rv compact writes it"),
+                folder,
+                String::from_str(alloc, "another rv compact has it"),
             )
         }
-        TryLockError::Error(why) => refused(alloc, path, why),
+        TryLockError::Error(why) => refused(alloc, folder, why),
     }
 }

@@ -10,7 +10,7 @@ ghost use Rattle.rv_journal.specs.System.{does_sync};
 ghost use Rattle.rv_store.specs.keeping.Boots.{IsChosenIn};
 
 use crate::keeping::boot::Boots;
-use crate::keeping::checkpoint::last_checkpoint;
+use crate::keeping::checkpoint::{forget, last_checkpoint};
 use crate::keeping::fault::{KeepFault, named, unusable};
 use crate::keeping::rules::StoreRules;
 use crate::keeping::store_account::{StoreAccount, again};
@@ -101,18 +101,27 @@ fn kept_so(journal: AccountJournal<SystemFile>, syncs: bool) -> AccountJournal<S
     journal
 }
 
-// The machine of the last checkpoint of the present account, if there is one.
+// The machine of the last checkpoint of the present account, if that may go on and has one.
 fn checkpointed(
     rt: &HostRuntime,
     folder: &mut SystemFolder<'_>,
     path: &str,
+    wish: EpochWish,
 ) -> Result<Option<Machine>, KeepFault>
     ensures { IfOk result (λ found. IfSome found (λ machine. CanResume (state_in machine))) }
 {
     match present_epoch(rt.alloc(), folder) {
-        Ok(Some(epoch)) => last_checkpoint(rt, path, epoch),
-        Ok(None) => Ok(None),
+        Ok(Some(epoch)) if wish.lets_go_on(epoch) => last_checkpoint(rt, path, epoch),
+        Ok(_) => Ok(None),
         Err(why) => Err(told(rt, folder, path, EnterFault::from(why))),
+    }
+}
+
+// Removes what was a checkpoint of an epoch that begins.
+fn forget_before(rt: &HostRuntime, path: &str, choice: EpochChoice) -> Result<(), KeepFault> {
+    match choice {
+        EpochChoice::Begins(epoch) => forget(rt, path, epoch),
+        EpochChoice::GoesOn(_) => Ok(()),
     }
 }
 
@@ -162,9 +171,10 @@ pub fn enter<'a>(
     let boots = Boots::read(rt, path, rules.boot)?;
     let lets_go_on = boots.lets_go_on(rules.syncs);
     let wish = wish_where(rules.epochs, lets_go_on);
-    let from = checkpointed(rt, &mut folder, path)?;
+    let from = checkpointed(rt, &mut folder, path, wish)?;
     let EnteredStore { account, choice } = entered(rt, &mut folder, path, wish, wall, from)?;
     boots.note(rt, path, rules.syncs)?;
+    forget_before(rt, path, choice)?;
     let StoredAccount { journal, machine } = account;
     let journal = kept_so(journal, rules.syncs);
     let account = kept(rt, journal, folder, machine.epoch())?;
@@ -239,7 +249,11 @@ fn account_told(
             unusable(rt.alloc(), name, why)
         }
         OpenFault::Refused(RecoveryFault::TooFew) => {
-            unusable_as(rt, name, "fewer entries than the checkpoint has")
+            unusable_as(
+                rt,
+                name,
+                "fewer entries than a .state file of it, which is no checkpoint of it",
+            )
         }
         OpenFault::Refused(RecoveryFault::NoAccount(_)) => {
             unusable_as(rt, name, "no legal account: rv verify tells where")
