@@ -1,6 +1,7 @@
 """`rv compact` makes a checkpoint of a store's account, which a host may keep meanwhile, and a start goes on from it."""
 from __future__ import annotations
 
+import dataclasses
 import fcntl
 import functools
 import os
@@ -26,6 +27,11 @@ from tests.sockets.wire import PATIENCE, cancel, demand, frame, give, hello, rep
 
 # How many requests are asked, and once in how many a checkpoint is made before one, or the host is killed.
 REQUESTS, KILLED = 60, 6
+# After how many requests checkpoints are laid beside an account, and how often one is spoilt.
+SPOILT_AFTER, SPOILT = 20, 40
+# The counts after findings on a record.
+FINDINGS = ["kept", "kept, as a cancel tells it", "another reply", "another call", "no such request", "still waiting", "another epoch",
+            "a reply that this call can't have", "no record", "differing", "repeating"]
 # The file in which a checkpoint is written, until it is stored.
 UNREADY = "unready.state"
 
@@ -49,6 +55,12 @@ class CheckpointCase(StoreCase):
         demand([path.name for path in self.states()] == [f"epoch-{EPOCH}-{count}.state"], f"there is {self.states()}")
         got, wanted = self.states()[0].read_bytes(), checkpoint_text(state_of(account))
         demand(got == wanted, f"the checkpoint is {got!r}, not {wanted!r}")
+        self.verified("the checkpoint that was made", [f"checkpoint {count} holds"])
+
+    def verified(self, name: str, told: list[str], *options: str, status: int = 0) -> None:
+        """`rv verify` of the store finds its account legal, and tells this after it."""
+        ran = subprocess.run([self.program, "verify", str(self.store), *options], capture_output=True, timeout=PATIENCE, text=True)
+        self.check_equal(name, (ran.returncode, ran.stdout, ran.stderr), (status, "".join(f"{line}\n" for line in ["legal", *told]), ""))
 
 
 def account_of(host: StoreHost) -> Account:
@@ -161,6 +173,89 @@ class GoesOn(CheckpointCase):
         self.told = f"{kills} kills, {len(made)} checkpoints"
 
 
+class Compared(CheckpointCase):
+    """`rv verify` compares each checkpoint of the present account with what the entries before it give."""
+
+    is_random = True
+
+    def account(self, chance: random.Random) -> Account:
+        """The account of a host that was asked many things."""
+        with self.host(*ANY) as host:
+            talk = Talk(host)
+            for _ in range(SPOILT_AFTER):
+                talk.ask(chance.choice(CLIENTS), chance.choice(["put", "put", "take", "count"]))
+            return account_of(host)
+
+    def lay(self, count: int, text: bytes, epoch: int = EPOCH) -> pathlib.Path:
+        """A file that is named as a checkpoint after so many entries."""
+        path = self.store / f"epoch-{epoch}-{count}.state"
+        path.write_bytes(text)
+        return path
+
+    def test_each_front(self) -> None:
+        """After any number of entries it is the model's state of those; that of one entry more or less differs, and so does one
+        after more than there are. Those of other epochs aren't compared."""
+        whole = self.account(random.Random(f"fronts {self.seed}"))
+        size = len(whole.entries)
+        texts = [checkpoint_text(state_of(dataclasses.replace(whole, entries=whole.entries[:count]))) for count in range(size + 1)]
+        for count, text in enumerate(texts):
+            self.lay(count, text)
+        self.lay(3, texts[3], EPOCH - 1)
+        self.lay(3, texts[3], EPOCH + 1)
+        self.verified("each of them", [f"checkpoint {count} holds" for count in range(size + 1)])
+        for count in range(size + 1):
+            self.lay(count, texts[count - 1])
+        self.lay(size + 1, texts[size])
+        self.verified("each of the entries before", [f"checkpoint {count} differs" for count in range(size + 2)], status=1)
+
+    def test_spoilt(self) -> None:
+        """One whose bytes are others than the model's differs."""
+        chance = random.Random(f"spoilt {self.seed}")
+        whole = self.account(chance)
+        size = len(whole.entries)
+        text = checkpoint_text(state_of(whole))
+        for _ in range(self.fixture.many(SPOILT)):
+            bad = spoilt(chance, text)
+            file = self.lay(size, bad)
+            right = bad == text
+            word = "holds" if right else "differs"
+            self.verified(repr(bad), [f"checkpoint {size} {word}"], status=0 if right else 1)
+        file.write_bytes(text)
+        record = self.store / "record"
+        record.write_bytes(b"")
+        self.verified("beside a record", [*(f"{word} 0" for word in FINDINGS), f"checkpoint {size} holds"], "--replies", str(record))
+        file.unlink()
+        file.mkdir()
+        ran = subprocess.run([self.program, "verify", str(self.store)], capture_output=True, timeout=PATIENCE, text=True)
+        self.check_equal("a folder", (ran.returncode, ran.stdout, ran.stderr),
+                         (1, "legal\n", f"account {file}: Is a directory (os error 21)\n"))
+
+    def test_an_account_that_is_not_legal(self) -> None:
+        """Its checkpoints before the fault hold, and those after it differ."""
+        whole = self.account(random.Random(f"fault {self.seed}"))
+        bad, size = len(whole.entries) - 2, len(whole.entries)
+        for count in (bad, size):
+            self.lay(count, checkpoint_text(state_of(dataclasses.replace(whole, entries=whole.entries[:count]))))
+        account = account_file(self.store, EPOCH)
+        held = text_of(account.read_bytes()).splitlines(keepends=True)
+        held[bad + 1] = b"none\n"
+        account.write_bytes(b"".join(held) + ROOM)
+        ran = subprocess.run([self.program, "verify", str(self.store)], capture_output=True, timeout=PATIENCE, text=True)
+        wanted = [f"bad line {bad + 2}", f"checkpoint {bad} holds", f"checkpoint {size} differs"]
+        self.check_equal("what is told", (ran.returncode, ran.stdout.splitlines(), ran.stderr), (1, wanted, ""))
+
+
+def spoilt(chance: random.Random, text: bytes) -> bytes:
+    """The text with a byte more, less or another, a line twice, gone or before another, or cut off."""
+    at, byte, held = chance.randrange(len(text)), bytes([chance.choice(b'0123456789 {}",:a\n\0')]), text.splitlines(keepends=True)
+    line, other = chance.randrange(len(held)), chance.randrange(len(held))
+    swapped = [*held]
+    swapped[line], swapped[other] = held[other], held[line]
+    return chance.choice([text[:at] + byte + text[at + 1:], text[:at] + byte + text[at:], text[:at] + text[at + 1:], text[:at],
+                          b"".join([*held[:line], *held[line + 1:]]), b"".join([*held[:line], held[line], *held[line:]]),
+                          b"".join(swapped)])
+
+
 class Refused(CheckpointCase):
     """What can't be a checkpoint, and what none is made of."""
 
@@ -267,6 +362,6 @@ class Refused(CheckpointCase):
 
 def load_tests(loader: unittest.TestLoader, _: unittest.TestSuite, __: str | None) -> unittest.TestSuite:
     """The cases, some at a time, within systems."""
-    classes: list[type[Case]] = [GoesOn, Refused]
+    classes: list[type[Case]] = [GoesOn, Compared, Refused]
     cases = [case for one in classes for case in loader.loadTestsFromTestCase(one)]
     return InSystems([SideBySide(cases)])

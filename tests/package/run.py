@@ -17,11 +17,12 @@ from tests.cases import Case, Tool
 from tests.sockets.wire import demand
 
 # What the package has for the system, with its mode; whatever else it has is its documentation.
-FILES = {"./usr/bin/rv": 0o755, "./usr/share/man/man1/rv.1.gz": 0o644, "./lib/systemd/system/rv.service": 0o644,
-         "./etc/default/rv": 0o644}
+UNITS = ("rv.service", "rv-compact.service", "rv-compact.timer")
+FILES = {"./usr/bin/rv": 0o755, "./usr/share/man/man1/rv.1.gz": 0o644, "./etc/default/rv": 0o644,
+         **{f"./lib/systemd/system/{unit}": 0o644 for unit in UNITS}}
 DOCUMENTATION = "./usr/share/doc/rv/"
-COMMANDS = ("book", "play", "audit", "serve", "host", "call", "record", "verify")
-# How exposed systemd may find the service, of 100.
+COMMANDS = ("book", "play", "audit", "serve", "host", "call", "record", "verify", "compact")
+# How exposed systemd may find a service, of 100.
 EXPOSURE = 15
 PATIENCE = 300
 
@@ -31,6 +32,11 @@ def ran(*words: object, umask: int = 0o022) -> str:
     done = subprocess.run([*map(str, words)], capture_output=True, text=True, timeout=PATIENCE, cwd=ROOT, umask=umask)
     demand(done.returncode == 0, f"{words[0]} ended by {done.returncode}: {done.stdout}{done.stderr}")
     return done.stdout + done.stderr
+
+
+def settings(text: str) -> dict[str, str]:
+    """The settings of a unit, or of a file of its environment: the last one of each name."""
+    return dict(line.split("=", 1) for line in text.splitlines() if "=" in line and not line.startswith("#"))
 
 
 class Built:
@@ -106,16 +112,32 @@ class Package(Case):
         demand("--epoch-above" in page, "it lacks an option of rv host")
         demand("warning" not in page, f"man warns: {page[:500]}")
 
-    def test_its_unit(self) -> None:
-        """systemd takes the unit without a word, and finds it hardly exposed."""
+    def test_its_units(self) -> None:
+        """systemd takes the units without a word, and finds their programs hardly exposed."""
         self.looks_by("systemd-analyze")
-        unit = self.built.unpacked() / "lib/systemd/system/rv.service"
-        here = pathlib.Path(self.built.folder / "rv.service")
-        here.write_text(unit.read_text().replace("/usr/bin/rv", str(self.built.unpacked() / "usr/bin/rv")))
-        said = ran("systemd-analyze", "verify", "--man=no", here)
-        told = [line for line in said.splitlines() if "rv.service" in line]
-        demand(not told, f"systemd says of it: {told}")
-        ran("systemd-analyze", "security", "--offline=true", f"--threshold={EXPOSURE}", unit)
+        root = self.built.unpacked()
+        here = self.built.folder / "units"
+        here.mkdir()
+        for unit in UNITS:
+            text = (root / "lib/systemd/system" / unit).read_text()
+            (here / unit).write_text(text.replace("/usr/bin/rv", str(root / "usr/bin/rv")))
+        said = ran("systemd-analyze", "verify", "--man=no", *(here / unit for unit in UNITS))
+        told = [line for line in said.splitlines() if any(unit in line for unit in UNITS)]
+        demand(not told, f"systemd says of them: {told}")
+        for service in UNITS[:2]:
+            ran("systemd-analyze", "security", "--offline=true", f"--threshold={EXPOSURE}", here / service)
+
+    def test_its_checkpoints(self) -> None:
+        """Both services have one user, state folder and store, so that a checkpoint is of what the server keeps, and is its to read."""
+        units = [settings((self.built.unpacked() / "lib/systemd/system" / unit).read_text()) for unit in UNITS[:2]]
+        serves, compacts = units
+        alike = ("DynamicUser", "StateDirectory", "StateDirectoryMode", "WorkingDirectory", "UMask", "EnvironmentFile")
+        differ = [name for name in alike if serves[name] != compacts[name]]
+        demand(not differ, f"the services differ in {differ}")
+        demand(compacts["User"] == "rv" and "User" not in serves, "the checkpoints' user isn't the one that systemd names by rv.service")
+        options = settings((self.built.unpacked() / "etc/default/rv").read_text())
+        demand(options["RV_OPTIONS"] == f'"--store {options["RV_STORE"]}"', f"the options are {options}")
+        demand(compacts["Environment"] == f"RV_STORE={options['RV_STORE']}", "without the options the checkpoints are of another store")
 
     def test_the_same_bytes(self) -> None:
         """Another build, under another umask and of an older program, gives the same bytes, whose times are all one."""

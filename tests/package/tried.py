@@ -27,8 +27,9 @@ from typing import Iterator
 from tests import ROOT
 
 # What the package owns in the system.
-OWNED = ("usr/bin/rv", "usr/share/man/man1/rv.1.gz", "lib/systemd/system/rv.service", "etc/default/rv")
-UNIT, OPTIONS, STATE = "lib/systemd/system/rv.service", "etc/default/rv", "/var/lib/rv"
+UNIT, COMPACTS, OPTIONS, STATE = ("lib/systemd/system/rv.service", "lib/systemd/system/rv-compact.service", "etc/default/rv",
+                                  "/var/lib/rv")
+OWNED = ("usr/bin/rv", "usr/share/man/man1/rv.1.gz", UNIT, COMPACTS, "lib/systemd/system/rv-compact.timer", OPTIONS)
 # A consumer that waits, and a producer that comes later: both are told of the other. It is told the address and their incarnation.
 HAND_OVER = """
 import sys, threading, time
@@ -114,15 +115,28 @@ def hand_over(base: pathlib.Path, client: pathlib.Path, address: str, incarnatio
     demand(told == "a 2\n", f"the hand-over told {told!r}")
 
 
+def compacted(base: pathlib.Path) -> None:
+    """A checkpoint, by the command of the timer's unit, with the options that are there."""
+    condition, = re.findall(r"^ExecCondition=(.*)$", (base / COMPACTS).read_text(), re.M)
+    compacts, = re.findall(r"^ExecStart=(.*)$", (base / COMPACTS).read_text(), re.M)
+    told = within(base, "/bin/sh", "-c", f". /{OPTIONS} && cd {STATE} && {condition} && {compacts}")
+    demand(re.fullmatch(r"checkpoint after [1-9][0-9]* entries\n", told) is not None, f"the checkpoint told {told!r}")
+
+
 def stored(base: pathlib.Path, client: pathlib.Path, address: str) -> None:
-    """Two starts of the service as it is installed, a hand-over at each: the second one goes on in the epoch of the first."""
+    """Two starts of the service as it is installed, a hand-over at each, and after it a checkpoint beside the server: the second one
+    goes on in the epoch of the first."""
     (base / STATE[1:]).mkdir(mode=0o750)
     for incarnation in (1, 2):
         with started(base, address):
             hand_over(base, client, address, incarnation)
-    kept = sorted(path.name for path in (base / STATE[1:] / "store").glob("epoch-*.account"))
+            compacted(base)
+    store = base / STATE[1:] / "store"
+    kept = sorted(path.name for path in store.glob("epoch-*.account"))
     demand(len(kept) == 1, f"the store has {kept}")
-    demand(within(base, "rv", "verify", f"{STATE}/store") == "legal\n", "the store's account isn't legal")
+    demand(len([*store.glob("epoch-*.state")]) == 1, "the store hasn't one checkpoint")
+    told = within(base, "rv", "verify", f"{STATE}/store")
+    demand(re.fullmatch(r"legal\ncheckpoint [0-9]+ holds\n", told) is not None, f"of the store it is told {told!r}")
     shutil.rmtree(base / STATE[1:])
 
 

@@ -82,9 +82,9 @@ fn checkpoint(rt: &HostRuntime, folder: &str, machine: &Machine) -> Result<ExitC
     }
 }
 
-// The machine that goes on from the whole lines of an account, if they are legal. They are of `size` bytes,
-// or of 0 if their number isn't known.
-fn machine_in<F: Read + Drop>(
+/// The machine that goes on from the whole lines of an account, if they are legal. They are of `size` bytes,
+/// or of 0 if their number isn't known.
+pub(crate) fn machine_in<F: Read + Drop>(
     rt: &HostRuntime,
     size: u64,
     input: F,

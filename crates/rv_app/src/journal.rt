@@ -104,12 +104,14 @@ impl Read for JournalText {
 // How many bytes of a journal are read at once: more than its longest line has.
 const READ_BYTES: usize = 65_536;
 
-/// The whole lines of a journal's account, as it stands. Each comes from one reading of the file: a server
-/// that starts meanwhile may clear the front of a line, and write another one there.
+/// The whole lines of a journal's account, as it stands, or the first of them. Each comes from one reading of
+/// the file: a server that starts meanwhile may clear the front of a line, and write another one there.
 #[derive(Drop)]
 pub(crate) struct JournalLines {
     file: File,
     at: u64,
+    // How many lines are still to be read.
+    left: u64,
     // What was read of whole lines, and how much of that was handed on.
     held: Vec<u8>,
     given: usize,
@@ -118,9 +120,15 @@ pub(crate) struct JournalLines {
 impl JournalLines {
     /// Those of this file.
     pub(crate) fn new(alloc: Global, file: File) -> JournalLines {
+        JournalLines::first(alloc, file, u64::MAX)
+    }
+
+    /// The first ones of this file, at most so many.
+    pub(crate) fn first(alloc: Global, file: File, count: u64) -> JournalLines {
         JournalLines {
             file,
             at: FORMAT_BYTES as u64,
+            left: count,
             held: Vec::new(alloc),
             given: 0,
         }
@@ -138,10 +146,36 @@ impl JournalLines {
         self.held.resize(READ_BYTES, 0)?;
         let count = self.file.read_at(&mut self.held, self.at)?;
         let whole = after_lines(&self.held[..count]);
-        self.held.truncate(whole);
-        self.at = self.at.saturating_add(whole as u64);
+        let front = front_of(self.left, &self.held[..whole]);
+        self.left = self.left.saturating_sub(front.lines);
+        self.held.truncate(front.bytes);
+        self.at = self.at.saturating_add(front.bytes as u64);
         Ok(())
     }
+}
+
+// The first of whole lines.
+#[derive(Clone, Copy)]
+struct Front {
+    lines: u64,
+    bytes: usize,
+}
+
+// The first of these whole lines, at most so many.
+fn front_of(most: u64, text: &[u8]) -> Front
+    ensures { result.bytes ≤ length text.now }
+{
+    let mut front = Front { lines: 0, bytes: 0 };
+    for (i, byte) in text.iter().enumerate() {
+        if front.lines == most {
+            return front;
+        }
+        if *byte == b'\n' {
+            front.lines = front.lines.saturating_add(1);
+            front.bytes = i + 1;
+        }
+    }
+    front
 }
 
 // How many bytes whole lines have that come before the first zero.

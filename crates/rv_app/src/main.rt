@@ -12,6 +12,7 @@ ghost use Rattle.rv_text.specs.Limits.{FitsIdentifier};
 mod account;
 mod again;
 mod audit;
+mod checkpoints;
 mod compact;
 mod ends;
 mod fault;

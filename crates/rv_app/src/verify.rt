@@ -10,6 +10,7 @@ ghost use Rattle.rv_verify.specs.Stages.{AreNew};
 ghost use Rattle.rv_verify.specs.Verdicts.{TellsNotOpen};
 
 use crate::again::{Again, RegularFile, is_folder, size_of};
+use crate::checkpoints::checkpoints_hold;
 use crate::fault::{NoAccount, ProgramFault};
 use crate::growing::follow;
 use crate::journal::{FileKind, JournalFile, JournalText, kind_of};
@@ -32,7 +33,8 @@ use std::process::ExitCode;
 use std::sync::Wait;
 use std::time;
 
-// The status if a file can't be opened, or has no account in a form that is read.
+// The status if a file can't be opened, or has no account in a form that is read, or a checkpoint isn't what
+// its account gives.
 const UNREAD: u8 = 1;
 
 /// `rv verify`: verifies the account in a file, in a store's folder or on standard input, and prints what it
@@ -85,7 +87,8 @@ fn verify_beside<T: Wait + time::Clock>(
     }
 }
 
-// The same of a store's folder: of the file of its present account. It takes no lock, so a server may write.
+// The same of a store's folder: of the file of its present account, and unless that is followed of its
+// checkpoints. It takes no lock, so a server may write.
 fn verify_store<T: Wait + time::Clock>(
     rt: &HostRuntime,
     waits: &T,
@@ -96,7 +99,14 @@ fn verify_store<T: Wait + time::Clock>(
     ensures { records.new.lines ≡ records.old.lines }
 {
     match present_account(rt, words.file) {
-        Ok(Some(path)) => verify_present(rt, waits, words, &path, records),
+        Ok(Some(path)) => {
+            let status = verify_present(rt, waits, words, &path, records)?;
+            if words.follow || checkpoints_hold(rt, words.file, &path)? {
+                Ok(status)
+            } else {
+                Ok(ExitCode::from(UNREAD))
+            }
+        }
         Ok(None) => Ok(not_verified(rt, words.file, &NoAccount::NoEpoch)),
         Err(error) => Ok(not_verified(rt, words.file, &error)),
     }

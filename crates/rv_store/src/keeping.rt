@@ -17,7 +17,9 @@ mod store_account;
 mod store_start;
 
 pub use account_file::AccountFile;
-pub use checkpoint::{StateFault, make_checkpoint, write_state};
+pub use checkpoint::{
+    CheckpointName, StateFault, checkpoints_in, is_checkpoint_of, make_checkpoint, write_state,
+};
 pub use fault::KeepFault;
 pub use file_start::begin_file;
 pub use keeper::Keeper;

@@ -1,18 +1,22 @@
 //! The checkpoints of a store: files of a state each, from which a start goes on.
 ghost use Rattle.std.specs.Prelude.{◌≡◌, ◌++◌, ◌∷◌, ◌↔◌, ◌<◌, ◌⊎◌, IfOk, IfSome, IsTrue, OnOk, string_bytes};
-ghost use Rattle.std.specs.Prelude.{[], Err, OnErr, true};
+ghost use Rattle.std.specs.Prelude.{[], Err, Ok, OnErr, true};
 ghost use Rattle.rv_account.specs.state.resume.Resuming.{CanResume};
+ghost use Rattle.rv_book.specs.lines.Lines.{lines};
+ghost use Rattle.rv_checkpoint.specs.Reading.{SaysState};
 ghost use Rattle.rv_frame.specs.Sink.{SinkTakes, sink_failed};
 ghost use Rattle.rv_machine.specs.Machines.{state_in};
 ghost use Rattle.rv_store.specs.declared.keeping.checkpoint.StateFault.TheVariants as OfState;
-ghost use Rattle.rv_store.specs.keeping.Checkpoints.{TakesState};
+ghost use Rattle.rv_store.specs.keeping.Checkpoints.{TakesState, checkpoint_file};
 
 use crate::keeping::fault::{KeepFault, refused, unusable};
 use os::errno;
 use rv_account::state::resume::Snapshot;
+use rv_book::lines::after_text;
 use rv_checkpoint::CheckpointWriter;
 use rv_frame::{Sink, WriteFault};
 use rv_machine::{Machine, NoMachine};
+use rv_text::NoMemory;
 use rv_verify::{VerifyFault, read_checkpoint};
 use std::alloc::{AllocError, Global};
 use std::fs::{self, File, TryLockError};
@@ -47,22 +51,36 @@ impl From<AllocError> for StateFault {
     }
 }
 
-/// A checkpoint's place in the account of a store: the epoch, and how many entries come before it.
+/// A checkpoint's place in the account of a store.
 #[derive(Clone, Copy, PartialEq, Eq)]
-pub(crate) struct CheckpointName {
-    pub(crate) epoch: u64,
-    pub(crate) entries: u64,
+pub struct CheckpointName {
+    /// The account's epoch.
+    pub epoch: u64,
+    /// How many entries come before it.
+    pub entries: u64,
 }
 
 impl CheckpointName {
+    /// Where its file lies in a folder. Fails only if memory was refused.
+    pub fn path(self, alloc: Global, folder: &str) -> Result<String, AllocError>
+        ensures { IfOk result (λ path. string_bytes path ≡ folder.now ++ 47 ∷ checkpoint_file self) }
+    {
+        let file = self.file(alloc)?;
+        format!(in alloc; "{folder}/{file}")
+    }
+
     // The name of its file.
-    fn file(self, alloc: Global) -> Result<String, AllocError> {
+    fn file(self, alloc: Global) -> Result<String, AllocError>
+        ensures { IfOk result (λ file. string_bytes file ≡ checkpoint_file self) }
+    {
         let CheckpointName { epoch, entries } = self;
         format!(in alloc; "epoch-{epoch}-{entries}.state")
     }
 
     // The checkpoint that a file of this name is, if it is one.
-    fn of(alloc: Global, name: &str) -> Result<Option<CheckpointName>, AllocError> {
+    fn of(alloc: Global, name: &str) -> Result<Option<CheckpointName>, AllocError>
+        ensures { IfOk result (λ found. IfSome found (λ own. name.now ≡ checkpoint_file own)) }
+    {
         let numbers = name
             .strip_prefix("epoch-")
             .and_then(|rest| rest.strip_suffix(".state"))
@@ -91,8 +109,9 @@ impl CheckpointName {
     }
 }
 
-// The checkpoints in a folder.
-fn listed(rt: &HostRuntime, folder: &str) -> io::Result<Vec<CheckpointName>> {
+/// The checkpoints in a store's folder, in any order. Fails if the system refuses to list it, or memory was
+/// refused.
+pub fn checkpoints_in(rt: &HostRuntime, folder: &str) -> io::Result<Vec<CheckpointName>> {
     let mut found = Vec::new(rt.alloc());
     for entry in fs::read_dir(rt, folder)? {
         if let Some(name) = CheckpointName::of(rt.alloc(), entry?.file_name())? {
@@ -119,12 +138,6 @@ fn is_after_last(name: CheckpointName, last: Option<CheckpointName>) -> bool {
         Some(last) => name.is_after(last),
         None => true,
     }
-}
-
-// Where the file of this name lies in a folder.
-fn path_in(alloc: Global, folder: &str, name: CheckpointName) -> Result<String, AllocError> {
-    let file = name.file(alloc)?;
-    format!(in alloc; "{folder}/{file}")
 }
 
 // The state that a file says, if it says one.
@@ -197,14 +210,14 @@ fn is_gone(found: &Result<Option<Machine>, KeepFault>) -> bool {
 fn look(rt: &HostRuntime, folder: &str, epoch: u64) -> Result<Option<Machine>, KeepFault>
     ensures { IfOk result (λ found. IfSome found (λ machine. CanResume (state_in machine))) }
 {
-    let names = match listed(rt, folder) {
+    let names = match checkpoints_in(rt, folder) {
         Ok(names) => names,
         Err(why) => return Err(refused(rt.alloc(), folder, why)),
     };
     let Some(name) = last_of(&names, epoch) else {
         return Ok(None);
     };
-    let path = path_in(rt.alloc(), folder, name)?;
+    let path = name.path(rt.alloc(), folder)?;
     match read_named(rt, &path, name) {
         Ok(Some(machine)) => Ok(Some(machine)),
         Ok(None) => {
@@ -243,6 +256,32 @@ pub fn write_state<W: Write>(
         }
     }
     Err(StateFault::NoMemory)
+}
+
+// What follows a line and its LF, with which these bytes begin, if they do.
+fn after_line<'a>(line: &str, bytes: &'a [u8]) -> Option<&'a [u8]>
+    ensures { IfSome result (λ rest. bytes.now ≡ (line.now ++ 10 ∷ []) ++ rest.now) }
+{
+    after_text(b"\n", after_text(line.as_bytes(), bytes)?)
+}
+
+/// Whether a text is the checkpoint of a state as [`write_state`] writes it. Fails only if memory was refused.
+pub fn is_checkpoint_of(alloc: Global, state: Snapshot, text: &[u8]) -> Result<bool, NoMemory>
+    requires { CanResume state }
+    ensures { result ≡ Ok true → SaysState (lines text.now) state }
+{
+    let mut writer = CheckpointWriter::new(state);
+    let mut rest = text;
+    for _turn in 0..u64::MAX {
+        let Some(line) = writer.next_line(alloc)? else {
+            return Ok(rest.is_empty());
+        };
+        let Some(after) = after_line(line.as_str(), rest) else {
+            return Ok(false);
+        };
+        rest = after;
+    }
+    Ok(false)
 }
 
 // Writes the state of a machine into a new file of this path, and stores it.
@@ -286,9 +325,9 @@ fn remove(rt: &HostRuntime, path: &str) -> io::Result<()> {
 
 // Removes the checkpoints before this one.
 fn remove_before(rt: &HostRuntime, folder: &str, last: CheckpointName) -> io::Result<()> {
-    for name in listed(rt, folder)?.iter() {
+    for name in checkpoints_in(rt, folder)?.iter() {
         if last.is_after(*name) {
-            let path = path_in(rt.alloc(), folder, *name)?;
+            let path = name.path(rt.alloc(), folder)?;
             remove(rt, &path)?;
         }
     }
@@ -297,9 +336,9 @@ fn remove_before(rt: &HostRuntime, folder: &str, last: CheckpointName) -> io::Re
 
 // Removes the checkpoints of an epoch.
 fn remove_of(rt: &HostRuntime, folder: &str, epoch: u64) -> io::Result<()> {
-    for name in listed(rt, folder)?.iter() {
+    for name in checkpoints_in(rt, folder)?.iter() {
         if name.epoch == epoch {
-            let path = path_in(rt.alloc(), folder, *name)?;
+            let path = name.path(rt.alloc(), folder)?;
             remove(rt, &path)?;
         }
     }
@@ -331,7 +370,7 @@ pub fn make_checkpoint(rt: &HostRuntime, folder: &str, machine: &Machine) -> Res
         epoch: machine.epoch(),
         entries: machine.length() as u64,
     };
-    let path = path_in(rt.alloc(), folder, name)?;
+    let path = name.path(rt.alloc(), folder)?;
     match make(rt, folder, machine, &path).and_then(|()| remove_before(rt, folder, name)) {
         Ok(()) => Ok(()),
         Err(why) => Err(refused(rt.alloc(), &path, why)),
