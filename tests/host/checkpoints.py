@@ -7,13 +7,16 @@ import functools
 import os
 import pathlib
 import random
+import signal
 import subprocess
 import threading
 import unittest
 
 from tests.cases import Case, SideBySide
+from tests.faults import preload
 from tests.faults.system import InSystems
 from tests.host.files import bounded
+from tests.host.power_cuts import LIBRARY, SOURCE, Disk
 from tests.host.stored import KilledHost, StoreCase, StoreHost
 from tests.host.stores import ANY, CLIENTS, EPOCH, Talk, under_kills
 from tests.journal.store import FORMAT, ROOM, text_of
@@ -27,6 +30,8 @@ from tests.sockets.wire import PATIENCE, cancel, demand, frame, give, hello, rep
 
 # How many requests are asked, and once in how many a checkpoint is made before one, or the host is killed.
 REQUESTS, KILLED = 60, 6
+# How often the power is cut, and how often `rv compact` asks something of the disk, or a little less.
+CUTS, ASKS = 16, 9
 # After how many requests checkpoints are laid beside an account, and how often one is spoilt.
 SPOILT_AFTER, SPOILT = 20, 40
 # The counts after findings on a record.
@@ -150,6 +155,28 @@ class GoesOn(CheckpointCase):
         with KilledHost(self.program, self.store, options=ANY) as host:
             kills = under_kills(host, ledger, chance, lambda is_last: self.compacts(host))
         self.told = f"{kills} kills"
+
+    def test_cuts(self) -> None:
+        """The power is cut somewhere in `rv compact`: the checkpoint before it is left, or the new one, or both, and each is whole.
+        The next start goes on after all entries."""
+        preload.built(SOURCE, LIBRARY)
+        self.store.mkdir()
+        chance, disk = random.Random(f"checkpoint cuts {self.seed}"), Disk(self.store, self.folder / "log")
+        entries, lost, had = None, 0, False
+        for number in range(self.fixture.many(CUTS)):
+            with self.host(*ANY, env=disk.env) as host:
+                demand(host.start == Start(EPOCH, entries), f"after cut {number} of {entries} entries it starts with {host.start}")
+                host.greeted(1 + number).close()
+                entries = len(account_of(host).entries)
+            ran = subprocess.run([self.program, "compact", str(self.store)], env=disk.env_at(chance.randint(1, ASKS)),
+                                 capture_output=True, timeout=PATIENCE)
+            demand(ran.returncode in (0, -signal.SIGKILL), f"rv compact: {ran}")
+            lost += disk.cut(chance)
+            counts = sorted(int(path.stem.rpartition("-")[2]) for path in self.states())
+            self.check("one is left", counts or not had, "there is none")
+            had = had or bool(counts)
+            self.verified(f"after cut {number}", [f"checkpoint {count} holds" for count in counts])
+        self.told = f"{lost} cuts lost what was not stored"
 
     def test_beside(self) -> None:
         """Checkpoints are made one after another beside a host that is killed: each is made, and each start goes on."""

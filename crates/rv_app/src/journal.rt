@@ -156,16 +156,16 @@ impl JournalLines {
 
 // The first of whole lines.
 #[derive(Clone, Copy)]
-struct Front {
+struct FirstLines {
     lines: u64,
     bytes: usize,
 }
 
 // The first of these whole lines, at most so many.
-fn front_of(most: u64, text: &[u8]) -> Front
+fn front_of(most: u64, text: &[u8]) -> FirstLines
     ensures { result.bytes ≤ length text.now }
 {
-    let mut front = Front { lines: 0, bytes: 0 };
+    let mut front = FirstLines { lines: 0, bytes: 0 };
     for (i, byte) in text.iter().enumerate() {
         if front.lines == most {
             return front;

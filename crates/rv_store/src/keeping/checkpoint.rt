@@ -265,7 +265,8 @@ fn after_line<'a>(line: &str, bytes: &'a [u8]) -> Option<&'a [u8]>
     after_text(b"\n", after_text(line.as_bytes(), bytes)?)
 }
 
-/// Whether a text is the checkpoint of a state as [`write_state`] writes it. Fails only if memory was refused.
+/// Whether a text is the checkpoint of a state as [`write_state`] writes it. Fails only if memory was
+/// refused.
 pub fn is_checkpoint_of(alloc: Global, state: Snapshot, text: &[u8]) -> Result<bool, NoMemory>
     requires { CanResume state }
     ensures { result ≡ Ok true → SaysState (lines text.now) state }
