@@ -65,7 +65,8 @@ NO_WRONG_BODY = (r"\w+::swap::Swap\w*::new", r"\w+::wait_queues::WaitQueues\w*::
                  r"\w+::counted::AnswerTally\w*::begin_turn", r"\w+::counted::AnswerTally\w*::counts",
                  r"\w+::counted::AnswerTally\w*::fresh", r"\w+::counted::AnswerTally\w*::times",
                  # a socket and a file, of which no clause can speak
-                 r"\w+::run::link::connected", r"\w+::keeping::checkpoint::make_checkpoint")
+                 r"\w+::run::link::connected", r"\w+::keeping::checkpoint::make_checkpoint",
+                 r"\w+::keeping::checkpoint::checkpoints_in")
 # Names of types and definitions that two crates declare: in each they mean the same. Of `Item` one crate has what a producer
 # hands over, the other what a frame was answered by; of `Clients` one has the sessions, the other the processes. Of `World` one
 # has the definition, the other the type. `Fault` belongs to a trait, and an impl in another crate names it too.
