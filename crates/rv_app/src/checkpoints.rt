@@ -20,10 +20,9 @@ pub(crate) fn checkpoints_hold(
     folder: &str,
     account: &str,
 ) -> Result<bool, RunFault> {
-    let Some(begun) = machine_after(rt, account, 0)? else {
+    let Some(epoch) = epoch_of(rt, account)? else {
         return Ok(true);
     };
-    let epoch = begun.epoch();
     let counts = match counts_of(rt, folder, epoch) {
         Ok(counts) => counts,
         Err(error) => {
@@ -40,6 +39,20 @@ pub(crate) fn checkpoints_hold(
         hold = holds(rt, folder, account, name)? && hold;
     }
     Ok(hold)
+}
+
+// The epoch of the account at this path. None if no legal first line of one is read, as was told before.
+fn epoch_of(rt: &HostRuntime, account: &str) -> Result<Option<u64>, RunFault> {
+    let Ok(file) = File::open(rt, account) else {
+        return Ok(None);
+    };
+    match kind_of(&file) {
+        FileKind::Journal => {
+            let begun = machine_in(rt, 0, JournalLines::first(rt.alloc(), file, 1))?;
+            Ok(begun.map(|machine| machine.epoch()))
+        }
+        _ => Ok(None),
+    }
 }
 
 // After how many entries the checkpoints of an epoch's account are, rising.
@@ -96,19 +109,13 @@ fn is_right(
     Ok(is_checkpoint_of(rt.alloc(), machine.state()?, text)?)
 }
 
-// The machine of an account's first entries, so many or all if they are fewer, if they are legal. None if the
-// file at this path is no journal with a line.
+// The machine of an account's first entries, so many or all if they are fewer, if they are legal.
 fn machine_after(rt: &HostRuntime, account: &str, entries: u64) -> Result<Option<Machine>, RunFault>
     ensures { IfOk result (λ found. IfSome found (λ machine. CanResume (state_in machine))) }
 {
     let Ok(file) = File::open(rt, account) else {
-        return Ok(None);
+        return Err(RunFault::ReadFault);
     };
-    match kind_of(&file) {
-        FileKind::Journal => {
-            let count = entries.saturating_add(1);
-            machine_in(rt, 0, JournalLines::first(rt.alloc(), file, count))
-        }
-        _ => Ok(None),
-    }
+    let lines = JournalLines::first(rt.alloc(), file, entries.saturating_add(1));
+    machine_in(rt, 0, lines)
 }
