@@ -79,6 +79,7 @@ fn holds(
     let text = match fs::read(rt, path.as_str()) {
         Ok(text) => text,
         Err(error) if error.kind() == ErrorKind::NotFound => return Ok(true),
+        Err(error) if error.kind() == ErrorKind::OutOfMemory => return Err(RunFault::NoMemory),
         Err(error) => {
             unread(rt, "account", &path, &error);
             return Ok(false);
