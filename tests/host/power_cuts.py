@@ -29,7 +29,7 @@ LIBRARY = SOURCE.parents[2] / "out/power_cut.so"
 CUTS, STARTS = 20, 10
 # How often a start asks something of the disk where it begins an account; less where it goes on. A crowd's host is killed when it
 # has asked so often more, at most.
-BEGINS, LATER = 9, 5
+BEGINS, LATER = 10, 5
 # The head of a record: its kind, a file's number, an offset, and how many bytes come behind it.
 HEAD = struct.Struct("=4Q")
 # What a cut leaves of a write; of bytes one by one, and of so many at a time.
